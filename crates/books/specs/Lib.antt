@@ -1,0 +1,4 @@
+pub mod Sums
+pub mod Graphs
+pub mod Books
+pub mod Refusals
