@@ -1,0 +1,6 @@
+pub mod Heights
+pub mod Lines
+pub mod Charges
+pub mod Peels
+pub mod Bests
+pub mod Searches
