@@ -3,7 +3,7 @@ use mathlib.Core.Path.{_≡_, refl, sym, _∙_, ap, subst}
 use mathlib.Core.Logic.{_⊎_, inl, inr}
 use mathlib.Core.Bool.{Bool, true, false, not, _&&_, cond}
 use Prim.Native.Nat.{ℕ, zero, suc, _+_, _-_, _*_, _≤_, _<_, zero-le}
-use native.Mathlib.Nat.{mul-le-mul-left, mul-le-mul-right, mul-lt-mul-of-pos-right, lt-of-mul-lt-mul-right, mul-pos, add-zero, zero-add, le-refl}
+use native.Mathlib.Nat.{mul-le-mul-left, mul-le-mul-right, mul-lt-mul-of-pos-right, lt-of-mul-lt-mul-right, mul-pos, add-zero, zero-add, le-antisymm}
 use native.Mathlib.Omega.{arith}
 use lib.Dec.{eqb, ltb, leb}
 use Rattle.std.proofs.shelf.Tests.{cases-eq, cases-bool, and-parts, and-from, not-from-false, not-true, both-ways, lt-ltb, le-leb, lt-leb, leb-true, cond-true, cond-false, cases-lt, le-ltb, and-left}
@@ -14,7 +14,7 @@ use Rattle.peel.specs.Tolerances.{Next, Height, stands, falls}
 use Rattle.peel.specs.Sets.{Cards, Same, size, partners-in, links-in}
 use Rattle.peel.specs.Lines.{below, reaches}
 use Rattle.peel.specs.Levels.{Rules, Table, at-least, Rests, RestsAbove, LowestAbove, zeros, AllRestUnder}
-use Rattle.peel.specs.Peels.{peel, peel-cards, peel-links, PeelLevels}
+use Rattle.peel.specs.Peels.{peel, peel-cards, peel-links, LevelsUpTo, PeelLevels}
 use Rattle.peel.specs.Searches.{reaches-at}
 use Rattle.peel.proofs.Charges.{handshake}
 use Rattle.peel.proofs.Lines.{partners-le, partners-same, below-down, not-below, short-of, size-le}
@@ -96,10 +96,9 @@ abbrev pub level-to : Rules → ℕ → ℕ → ℕ
 level-to r zero v = 0
 level-to r (suc k) v = cond (peel r (suc k) v) (suc k) (level-to r k v)
 
-pub level-is : (r : Rules) (v : ℕ) → v < r .graph .cards → (k : ℕ) →
-    (level-to r k v ≤ k) × (peel r (level-to r k v) v ≡ true) × ((i : ℕ) → i ≤ k → peel r i v ≡ true → i ≤ level-to r k v)
-level-is r v h zero = (omega arith, lt-ltb _ _ h, λ i l _. l)
-level-is r v h (suc k) = go (peel r (suc k) v) refl (level-is r v h k)
+pub level-is : (r : Rules) (k : ℕ) → LevelsUpTo r k (level-to r k)
+level-is r zero v h = (omega arith, lt-ltb _ _ h, λ i l _. l)
+level-is r (suc k) v h = go (peel r (suc k) v) refl (level-is r k v h)
   where
     go : (b : Bool) → peel r (suc k) v ≡ b → (level-to r k v ≤ k) × (peel r (level-to r k v) v ≡ true) × ((i : ℕ) → i ≤ k → peel r i v ≡ true → i ≤ level-to r k v) →
         (level-to r (suc k) v ≤ suc k) × (peel r (level-to r (suc k) v) v ≡ true) × ((i : ℕ) → i ≤ suc k → peel r i v ≡ true → i ≤ level-to r (suc k) v)
@@ -107,13 +106,20 @@ level-is r v h (suc k) = go (peel r (suc k) v) refl (level-is r v h k)
     go false e ih = subst (λ (m : ℕ). (m ≤ suc k) × (peel r m v ≡ true) × ((i : ℕ) → i ≤ suc k → peel r i v ≡ true → i ≤ m)) (sym (cond-false _ _ _ e))
         (omega (arith, ih .0), ih .1, λ i l p. elim (cases-eq i (suc k)) [ inl z ↦ absurd (both-ways _ e (subst (λ (m : ℕ). peel r m v ≡ true) z p)) | inr n ↦ ih .2 i (omega arith) p ])
 
+-- there is one such table
+pub levels-only : (r : Rules) (k : ℕ) (L M : Table) → LevelsUpTo r k L → LevelsUpTo r k M → (v : ℕ) → v < r .graph .cards → L v ≡ M v
+levels-only r k L M a b v h = le-antisymm (b v h .2 (L v) (a v h .0) (a v h .1)) (a v h .2 (M v) (b v h .0) (b v h .1))
+
+pub levels-same : (r : Rules) (k : ℕ) (L M : Table) → ((v : ℕ) → v < r .graph .cards → L v ≡ M v) → LevelsUpTo r k M → LevelsUpTo r k L
+levels-same r k L M e lv v h = subst (λ (m : ℕ). (m ≤ k) × (peel r m v ≡ true) × ((i : ℕ) → i ≤ k → peel r i v ≡ true → i ≤ m)) (sym (e v h)) (lv v h)
+
 -- the cards at level i or higher are the set i
-pub level-set : (r : Rules) (k i v : ℕ) → v < r .graph .cards → i ≤ k → leb i (level-to r k v) ≡ peel r i v
-level-set r k i v h l = elim (cases-lt (level-to r k v) i) [
-    inr le ↦ le-leb _ _ le ∙ sym (peel-mono r v i (level-to r k v) le (level-is r v h k .1))
+pub level-set : (r : Rules) (k : ℕ) (L : Table) → LevelsUpTo r k L → (i : ℕ) → i ≤ k → Same (r .graph) (at-least L i) (peel r i)
+level-set r k L lv i l v h = elim (cases-lt (L v) i) [
+    inr le ↦ le-leb _ _ le ∙ sym (peel-mono r v i (L v) le (lv v h .1))
   | inl lt ↦ elim (cases-bool (peel r i v)) [
       inr f ↦ lt-leb _ _ lt ∙ sym f
-    | inl y ↦ absurd (omega (arith, level-is r v h k .2 i l y)) ] ]
+    | inl y ↦ absurd (omega (arith, lv v h .2 i l y)) ] ]
 
 -- a card of the set i has no lower level in a table in which every card rests
 under-rest : (r : Rules) (N : Table) → RestsAbove r zeros N → (i v : ℕ) → v < r .graph .cards → i ≤ r .height → peel r i v ≡ true → i ≤ N v

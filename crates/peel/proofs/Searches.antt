@@ -13,13 +13,13 @@ use Rattle.peel.specs.declared.line.Line.{Line}
 use Rattle.peel.specs.Tolerances.{Height}
 use Rattle.peel.specs.Sets.{Cards, Same, size, links-in}
 use Rattle.peel.specs.Lines.{line-of, reaches}
-use Rattle.peel.specs.Levels.{Rules, Table, AllRestUnder, LowestAbove, zeros}
+use Rattle.peel.specs.Levels.{Rules, rules, Table, AllRestUnder, LowestAbove, zeros}
 use Rattle.peel.specs.Peels.{peel, peel-cards, peel-links, PeelLevels, Best}
 use Rattle.peel.specs.Searches.{Outcome, rules-from, reaches-at, Search, ends, again, Alike}
 use Rattle.peel.specs.Theorems.{Sound}
 use Rattle.peel.proofs.Lines.{line-same, size-same, size-le, reach-of, reach-up, reach-denser}
 use Rattle.peel.proofs.Charges.{rest-bound, links-le}
-use Rattle.peel.proofs.Peels.{Quiet, empties, peel-lowest, levels-under}
+use Rattle.peel.proofs.Peels.{Quiet, empties, levels-only, peel-lowest, levels-under}
 use Rattle.peel.proofs.Bests.{densest-only}
 
 -- a best set that falls short shows that every set does
@@ -45,13 +45,9 @@ pub search-some : {g : Graph} {p q k : ℕ} {K : Cards} {o : Outcome} → Search
 search-some (ends t b sh lv) h = h
 search-some {g} (again {K = K} {B = B} t b re same s) h = search-some s (lt-of-lt-of-le (b .some) (le-of-eq (sym (size-same g _ _ same))))
 
--- levels are the same as far as the sets are
-levels-only : (r : Rules) (L M : Table) → PeelLevels r L → PeelLevels r M → (v : ℕ) → v < r .graph .cards → L v ≡ M v
-levels-only r L M a b v h = le-antisymm (b v h .2 (L v) (a v h .0) (a v h .1)) (a v h .2 (M v) (b v h .0) (b v h .1))
-
 -- two sets with the same cards make the same rules, and have the same best set
 rules-same : (g : Graph) (p q k : ℕ) (K K′ : Cards) → Same g K K′ → rules-from g p q k K ≡ rules-from g p q k K′
-rules-same g p q k K K′ same = λ i. record { graph = g; p = p; q = q; line = line-same g K K′ same i; height = k }
+rules-same g p q k K K′ same = λ i. rules g p q (line-same g K K′ same i) k
 
 best-same : (r r′ : Rules) → r ≡ r′ → (t t′ : ℕ) → Best r t → Best r′ t′ → t ≡ t′
 best-same r r′ e t t′ b b′ = densest-only (peel-links r) (peel-cards r) (r .height) t t′ b (subst (λ (x : Rules). Best x t′) (sym e) b′)
@@ -66,7 +62,7 @@ set-same r r′ e t t′ b b′ v = λ i. peel (e i) (best-same r r′ e t t′ 
 pub search-only : {g : Graph} {p q k : ℕ} {K K′ : Cards} {o o′ : Outcome} → Same g K K′ → Search g p q k K o → Search g p q k K′ o′ → Alike g o o′
 search-only {g} {p} {q} {k} {K} {K′} same (ends {L = L} t b sh lv) (ends {L = M} t′ b′ sh′ lv′) =
     record { kept = same; line = line-same g K K′ same; peels = refl
-           ; levels = levels-only (rules-from g p q k K) L M lv (subst (λ (r : Rules). PeelLevels r M) (sym (rules-same g p q k K K′ same)) lv′) }
+           ; levels = levels-only (rules-from g p q k K) k L M lv (subst (λ (r : Rules). PeelLevels r M) (sym (rules-same g p q k K K′ same)) lv′) }
 search-only {g} {p} {q} {k} {K} {K′} same (ends t b sh lv) (again t′ b′ re′ same′ s′) =
     absurd (both-ways _ (sym (reach-same _ _ (rules-same g p q k K K′ same) t t′ b b′) ∙ sh) re′)
 search-only {g} {p} {q} {k} {K} {K′} same (again t b re same₁ s) (ends t′ b′ sh′ lv′) =
@@ -74,6 +70,21 @@ search-only {g} {p} {q} {k} {K} {K′} same (again t b re same₁ s) (ends t′ 
 search-only {g} {p} {q} {k} {K} {K′} same (again {B = B} {o = o} t b re same₁ s) (again {B = B′} {o = o′} t′ b′ re′ same′ s′) =
     let a : Alike g o o′ = search-only (λ v h. same₁ v h ∙ set-same _ _ (rules-same g p q k K K′ same) t t′ b b′ v ∙ sym (same′ v h)) s s′ in
     record { kept = a .kept; line = a .line; levels = a .levels; peels = ap suc (a .peels) }
+
+-- a search from a set goes the same from another with the same cards
+pub search-move : {g : Graph} {p q k : ℕ} {K K′ : Cards} {o : Outcome} → Same g K K′ → Search g p q k K o
+    → (o′ : Outcome) × Search g p q k K′ o′ × Alike g o o′
+search-move {g} {p} {q} {k} {K} {K′} same (ends {L = L} t b sh lv) =
+    let e : rules-from g p q k K ≡ rules-from g p q k K′ = rules-same g p q k K K′ same in
+    (record { kept = K′; line = line-of g K′; levels = L; peels = 1 },
+     ends t (subst (λ (r : Rules). Best r t) e b) (subst (λ (r : Rules). reaches-at r t ≡ false) e sh) (subst (λ (r : Rules). PeelLevels r L) e lv),
+     record { kept = same; line = line-same g K K′ same; levels = λ v h. refl; peels = refl })
+search-move {g} {p} {q} {k} {K} {K′} same (again {B = B} {o = o} t b re same₁ s) =
+    let e : rules-from g p q k K ≡ rules-from g p q k K′ = rules-same g p q k K K′ same in
+    (record { kept = o .kept; line = o .line; levels = o .levels; peels = suc (o .peels) },
+     again t (subst (λ (r : Rules). Best r t) e b) (subst (λ (r : Rules). reaches-at r t ≡ true) e re)
+       (subst (λ (r : Rules). Same g B (peel r t)) e same₁) s,
+     record { kept = λ v h. refl; line = refl; levels = λ v h. refl; peels = refl })
 
 -- how dense a set is, as a whole number that grows with each step of a search
 pub rank : Graph → Cards → ℕ

@@ -17,6 +17,9 @@ pub record Rules : Type 0 where
   pub line : Line
   pub height : ℕ
 
+abbrev pub rules : Graph → ℕ → ℕ → Line → ℕ → Rules
+rules g p q l k = record { graph = g; p = p; q = q; line = l; height = k }
+
 -- the level of each card
 abbrev pub Table : Type 0
 Table = ℕ → ℕ

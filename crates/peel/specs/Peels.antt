@@ -18,11 +18,15 @@ peel-cards r t = size (r .graph) (peel r t)
 abbrev pub peel-links : Rules → ℕ → ℕ
 peel-links r t = links-in (r .graph) (peel r t)
 
--- the table L gives each card the last of the sets, up to the height, that still has it
-abbrev pub PeelLevels : Rules → Table → Type 0
-PeelLevels r L =
+-- the table L gives each card the last of the sets up to k that still has it
+abbrev pub LevelsUpTo : Rules → ℕ → Table → Type 0
+LevelsUpTo r k L =
     (v : ℕ) → v < r .graph .cards
-    → (L v ≤ r .height) × (peel r (L v) v ≡ true) × ((t : ℕ) → t ≤ r .height → peel r t v ≡ true → t ≤ L v)
+    → (L v ≤ k) × (peel r (L v) v ≡ true) × ((t : ℕ) → t ≤ k → peel r t v ≡ true → t ≤ L v)
+
+-- the levels of the peel, which goes up to the height
+abbrev pub PeelLevels : Rules → Table → Type 0
+PeelLevels r L = LevelsUpTo r (r .height) L
 
 -- of m sets, the set t having e t links and s t cards, i is the first of highest density, empty sets passed over
 pub record Densest (e s : ℕ → ℕ) (m i : ℕ) : Type 0 where

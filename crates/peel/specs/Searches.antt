@@ -7,7 +7,7 @@ use Rattle.peel.specs.declared.line.Line.{Line}
 use Rattle.peel.specs.Tolerances.{Height}
 use Rattle.peel.specs.Sets.{Cards, everyone, Same}
 use Rattle.peel.specs.Lines.{line-of, reaches}
-use Rattle.peel.specs.Levels.{Rules, Table}
+use Rattle.peel.specs.Levels.{Rules, rules, Table}
 use Rattle.peel.specs.Peels.{peel, peel-cards, peel-links, PeelLevels, Best}
 
 -- what a search leaves: the kept set, the last line, the levels of the last peel, and how many peels there were
@@ -19,7 +19,7 @@ pub record Outcome : Type 0 where
 
 -- the rules of a peel against the line that the set K makes
 abbrev pub rules-from : Graph → ℕ → ℕ → ℕ → Cards → Rules
-rules-from g p q k K = record { graph = g; p = p; q = q; line = line-of g K; height = k }
+rules-from g p q k K = rules g p q (line-of g K) k
 
 -- whether the set t of the peel reaches the line
 abbrev pub reaches-at : Rules → ℕ → Bool

@@ -1,0 +1,3 @@
+// The search for a dense group of cards, on any book that can be read.
+mod partners;
+mod sets;
