@@ -1,10 +1,7 @@
 // How many partners of a card are in a set.
 ghost use mathlib.Core.Path.{_≡_};
-ghost use Prim.Native.Nat.{_≤_};
 ghost use Rattle.books.specs.Books.{Book};
 ghost use Rattle.peel.specs.Sets.{partners-in};
-use super::sets::AtLeast;
-use super::sets::AtLeastSet;
 use super::sets::CardSet;
 use books::ReadingBook;
 
@@ -21,14 +18,4 @@ pub fn partners_in<B: ReadingBook, S: CardSet>(book: &B, set: &S, u: u16) -> u16
         from = v + 1;
     }
     found
-}
-
-pub fn probe<B: ReadingBook>(book: &B, levels: &mut [u16; 1024], u: u16, t: u16) -> u16
-    requires { ⌜ 1024 ≤ 0 ⌝ }
-{
-    let d = partners_in(book, &AtLeast { levels, level: t }, u);
-    if d > 3 && u < 1024 && t < 1000 {
-        levels[u as usize] = t + 1;
-    }
-    d
 }
