@@ -9,7 +9,7 @@ use lib.Dec.{eqb, ltb, leb}
 use Rattle.std.proofs.shelf.Tests.{cases-eq, cases-bool, and-parts, and-from, not-from-false, not-true, both-ways, lt-ltb, le-leb, lt-leb, leb-true, cond-true, cond-false, cases-lt, le-ltb, and-left}
 use Rattle.books.specs.Sums.{sum-to, one, when}
 use Rattle.books.specs.Graphs.{Graph, Lawful}
-use Rattle.books.proofs.Sums.{sum-le, sum-eq, sum-mul, sum-at}
+use Rattle.books.proofs.Sums.{sum-le, sum-lt, sum-mul, sum-none, sum-at}
 use Rattle.peel.specs.Tolerances.{Next, Height, stands, falls}
 use Rattle.peel.specs.Sets.{Cards, Same, size, partners-in, links-in}
 use Rattle.peel.specs.Lines.{below, reaches}
@@ -155,3 +155,62 @@ levels-under r L none lv v h = (under, levels-rest r L lv v h)
     lt-of-ne h n = omega arith
     under : L v < r .height
     under = lt-of-ne (lv v h .0) top
+
+-- a peel whose set has no card left
+pub none-left : (r : Rules) (t : ℕ) → peel-cards r t ≡ 0 → (v : ℕ) → v < r .graph .cards → peel r t v ≡ false
+none-left r t z v h = elim (cases-bool (peel r t v)) [
+    inr f ↦ f
+  | inl y ↦ absurd (omega (arith, sum-at (λ u. one (peel r t u)) (r .graph .cards) v h, ap one y)) ]
+
+pub none-later : (r : Rules) (t j : ℕ) → peel-cards r t ≡ 0 → t ≤ j → peel-cards r j ≡ 0
+none-later r t j z l = sum-none _ (r .graph .cards) (λ v h. elim (cases-bool (peel r j v)) [
+    inr f ↦ ap one f
+  | inl y ↦ absurd (both-ways _ (none-left r t z v h) (peel-mono r v t j l y)) ])
+
+-- then the levels so far are the levels of all further sets too
+pub levels-empty : (r : Rules) (m k : ℕ) (L : Table) → m ≤ k → peel-cards r m ≡ 0 → LevelsUpTo r m L → LevelsUpTo r k L
+levels-empty r m k L l z lv v h = (omega (arith, lv v h .0), lv v h .1, λ i a y. elim (cases-lt m i) [
+    inl b ↦ absurd (both-ways _ (none-left r m z v h) (peel-mono r v m i (omega arith) y))
+  | inr b ↦ lv v h .2 i b y ])
+
+-- a round in which every card stays
+pub all-stay : (r : Rules) (t : ℕ) → peel-cards r (suc t) ≡ peel-cards r t → Same (r .graph) (peel r (suc t)) (peel r t)
+all-stay r t e v h = elim (cases-bool (peel r (suc t) v)) [
+    inl y ↦ y ∙ sym (and-parts _ _ y .0)
+  | inr f ↦ elim (cases-bool (peel r t v)) [
+      inr n ↦ f ∙ sym n
+    | inl y ↦ absurd (omega (arith, e, sum-lt (λ u. one (peel r (suc t) u)) (λ u. one (peel r t u)) (r .graph .cards) v h
+        (λ u _. fewer (peel r t u) _) (omega (arith, ap one f, ap one y)))) ] ]
+  where
+    fewer : (x y : Bool) → one (x && y) ≤ one x
+    fewer true true = omega arith
+    fewer true false = omega arith
+    fewer false y = omega arith
+
+-- then every further set is the same
+pub stays-on : (r : Rules) (t d : ℕ) → peel-cards r (suc t) ≡ peel-cards r t → Same (r .graph) (peel r (d + t)) (peel r t)
+stays-on r t zero e v h = ap (λ (j : ℕ). peel r j v) (zero-add t)
+stays-on r t (suc d) e v h =
+    let j : suc d + t ≡ suc (d + t) = omega arith in
+    ap (λ (i : ℕ). peel r i v) j
+    ∙ (λ i. stays-on r t d e v h i && not (below (r .p) (r .q) (r .line) (partners-same (r .graph) _ _ v (stays-on r t d e) i)))
+    ∙ all-stay r t e v h
+
+pub stays-to : (r : Rules) (t j : ℕ) → t ≤ j → peel-cards r (suc t) ≡ peel-cards r t → Same (r .graph) (peel r j) (peel r t)
+stays-to r t j l e v h =
+    let s : (j - t) + t ≡ j = omega arith in
+    ap (λ (i : ℕ). peel r i v) (sym s) ∙ stays-on r t (j - t) e v h
+
+-- and the cards that stay go up to the last set at once
+pub levels-lifted : (r : Rules) (t k : ℕ) (L M : Table) → t < k → peel-cards r (suc t) ≡ peel-cards r t → LevelsUpTo r (suc t) L
+    → ((v : ℕ) → v < r .graph .cards → M v ≡ cond (ltb t (L v)) k (L v)) → LevelsUpTo r k M
+levels-lifted r t k L M l e lv is = levels-same r k M (λ v. cond (ltb t (L v)) k (L v)) is lifted
+  where
+    lifted : LevelsUpTo r k (λ v. cond (ltb t (L v)) k (L v))
+    lifted v h = elim (cases-lt t (L v)) [
+        inl a ↦ subst (λ (m : ℕ). (m ≤ k) × (peel r m v ≡ true) × ((i : ℕ) → i ≤ k → peel r i v ≡ true → i ≤ m)) (sym (cond-true _ _ _ (lt-ltb _ _ a)))
+            (omega arith, stays-to r t k (omega arith) e v h ∙ peel-mono r v t (L v) (omega arith) (lv v h .1), λ i b _. b)
+      | inr a ↦ subst (λ (m : ℕ). (m ≤ k) × (peel r m v ≡ true) × ((i : ℕ) → i ≤ k → peel r i v ≡ true → i ≤ m)) (sym (cond-false _ _ _ (le-ltb _ _ a)))
+            (omega arith, lv v h .1, λ i b y. elim (cases-lt t i) [
+              inr c ↦ lv v h .2 i (omega arith) y
+            | inl c ↦ absurd (omega (arith, lv v h .2 (suc t) (omega arith) (all-stay r t e v h ∙ sym (stays-to r t i (omega arith) e v h) ∙ y))) ]) ]
