@@ -1,3 +1,5 @@
 pub mod Walks
+pub mod Tallies
 pub mod Rounds
 pub mod Peelings
+pub mod Searchings

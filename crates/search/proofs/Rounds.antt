@@ -4,7 +4,6 @@ use mathlib.Core.Logic.{_⊎_, inl, inr}
 use mathlib.Core.List.{List}
 use mathlib.Core.Bool.{Bool, true, false, not, _&&_, cond}
 use Prim.Native.Nat.{ℕ, suc, _+_, _*_, _≤_, _<_}
-use native.Mathlib.Nat.{mul-le-mul-left, mul-le-mul}
 use native.Mathlib.Omega.{arith}
 use lib.Dec.{leb}
 use lib.ListN.{length, getD, set, length-set}
@@ -12,15 +11,16 @@ use Rattle.std.proofs.shelf.Lists.{getD-set-same, getD-set-other}
 use Rattle.std.proofs.shelf.Tests.{cases-eq, cases-lt, le-leb, lt-leb, and-from, and-left, and-right, not-from-true, not-from-false, cond-true, cond-false}
 use Rattle.books.specs.Sums.{sum-to, one}
 use Rattle.books.specs.Graphs.{Graph, Lawful}
-use Rattle.books.proofs.Sums.{sum-more, ones-le, sum-most, one-le}
+use Rattle.books.proofs.Sums.{ones-le}
 use Rattle.peel.specs.Sets.{Cards, Same, size, partners-in}
 use Rattle.peel.specs.Lines.{below}
 use Rattle.peel.specs.Levels.{Rules, Table, at-least}
 use Rattle.peel.specs.Peels.{peel, peel-cards, peel-links, LevelsUpTo}
 use Rattle.peel.proofs.Lines.{partners-same}
-use Rattle.peel.proofs.Charges.{handshake, partners-most}
+use Rattle.peel.proofs.Charges.{handshake}
 use Rattle.peel.proofs.Peels.{level-to, level-is, levels-only, levels-same, level-set}
 use Rattle.search.specs.Rows.{rows}
+use Rattle.search.proofs.Tallies.{ends-below, more-cards, more-ends, ends-few}
 
 -- within round t: the cards below u have been looked at
 pub record MidRound (r : Rules) (t u : ℕ) (xs : List ℕ) (cards ends stayed : ℕ) : Type 0 where
@@ -31,7 +31,7 @@ pub record MidRound (r : Rules) (t u : ℕ) (xs : List ℕ) (cards ends stayed :
   pub left : (v : ℕ) → u ≤ v → v < r .graph .cards → rows xs v ≡ level-to r t v
   -- the cards below u are counted
   pub cards-are : cards ≡ sum-to (λ v. one (peel r t v)) u
-  pub ends-are : ends ≡ sum-to (λ v. one (peel r t v) * partners-in (r .graph) (peel r t) v) u
+  pub ends-are : ends ≡ ends-below (r .graph) (peel r t) u
   pub stayed-are : stayed ≡ sum-to (λ v. one (peel r (suc t) v)) u
 
 pub mid-start : (r : Rules) (t : ℕ) (xs : List ℕ) → length xs ≡ 1024 → LevelsUpTo r t (rows xs) → MidRound r t 0 xs 0 0 0
@@ -64,12 +64,6 @@ still r t u xs cards ends stayed m l out v h k = elim (cases-eq v u) [
     inl e ↦ subst (λ (x : ℕ). rows xs x ≡ level-to r (suc t) x) (sym e) (m .left u (omega arith) l ∙ sym (cond-false _ _ _ out))
   | inr n ↦ m .done v (omega arith) k ]
 
-more-one : (p : ℕ → Bool) (u : ℕ) (b : Bool) → p u ≡ b → sum-to (λ v. one (p v)) (u + 1) ≡ sum-to (λ v. one (p v)) u + one b
-more-one p u b e = sum-more (λ v. one (p v)) u ∙ ap (λ (x : Bool). sum-to (λ v. one (p v)) u + one x) e
-
-more-ends : (p : ℕ → Bool) (f : ℕ → ℕ) (u : ℕ) (b : Bool) → p u ≡ b → sum-to (λ v. one (p v) * f v) (u + 1) ≡ sum-to (λ v. one (p v) * f v) u + one b * f u
-more-ends p f u b e = sum-more (λ v. one (p v) * f v) u ∙ ap (λ (x : Bool). sum-to (λ v. one (p v) * f v) u + one x * f u) e
-
 -- u is not in the set t
 pub mid-pass : (r : Rules) (t u : ℕ) (xs : List ℕ) (cards ends stayed : ℕ) → MidRound r t u xs cards ends stayed → u < r .graph .cards
     → rows xs u < t → MidRound r t (u + 1) xs cards ends stayed
@@ -80,9 +74,9 @@ mid-pass r t u xs cards ends stayed m l low =
       long = m .long;
       done = λ v h k. still r t u xs cards ends stayed m l next v (omega arith) k;
       left = λ v h k. m .left v (omega arith) k;
-      cards-are = omega (arith, m .cards-are, more-one (peel r t) u false out);
-      ends-are = omega (arith, m .ends-are, more-ends (peel r t) (partners-in (r .graph) (peel r t)) u false out);
-      stayed-are = omega (arith, m .stayed-are, more-one (peel r (suc t)) u false next) }
+      cards-are = omega (arith, m .cards-are, more-cards (peel r t) u false out);
+      ends-are = omega (arith, m .ends-are, more-ends (r .graph) (peel r t) u false out);
+      stayed-are = omega (arith, m .stayed-are, more-cards (peel r (suc t)) u false next) }
 
 -- u is in the set t, and its d partners there are below the line
 pub mid-drop : (r : Rules) (t u d : ℕ) (xs : List ℕ) (cards ends stayed : ℕ) → MidRound r t u xs cards ends stayed → u < r .graph .cards
@@ -96,9 +90,9 @@ mid-drop r t u d xs cards ends stayed m l high e b =
       long = m .long;
       done = λ v h k. still r t u xs cards ends stayed m l next v (omega arith) k;
       left = λ v h k. m .left v (omega arith) k;
-      cards-are = omega (arith, m .cards-are, more-one (peel r t) u true inn);
-      ends-are = omega (arith, m .ends-are, more-ends (peel r t) (partners-in (r .graph) (peel r t)) u true inn, f);
-      stayed-are = omega (arith, m .stayed-are, more-one (peel r (suc t)) u false next) }
+      cards-are = omega (arith, m .cards-are, more-cards (peel r t) u true inn);
+      ends-are = omega (arith, m .ends-are, more-ends (r .graph) (peel r t) u true inn, f);
+      stayed-are = omega (arith, m .stayed-are, more-cards (peel r (suc t)) u false next) }
 
 -- u is in the set t, and stays
 pub mid-stay : (r : Rules) (t u d : ℕ) (xs : List ℕ) (cards ends stayed : ℕ) → MidRound r t u xs cards ends stayed → u < r .graph .cards → u < 1024
@@ -116,20 +110,16 @@ mid-stay r t u d xs cards ends stayed m l few high e b =
               (getD-set-same xs u (t + 1) 0 within ∙ (let s : t + 1 ≡ suc t = omega arith in s) ∙ sym (cond-true _ _ _ next))
         | inr n ↦ getD-set-other xs u v (t + 1) 0 n ∙ m .done v (omega arith) k ];
       left = λ v h k. getD-set-other xs u v (t + 1) 0 (λ z. omega arith) ∙ m .left v (omega arith) k;
-      cards-are = omega (arith, m .cards-are, more-one (peel r t) u true inn);
-      ends-are = omega (arith, m .ends-are, more-ends (peel r t) (partners-in (r .graph) (peel r t)) u true inn, f);
-      stayed-are = omega (arith, m .stayed-are, more-one (peel r (suc t)) u true next) }
+      cards-are = omega (arith, m .cards-are, more-cards (peel r t) u true inn);
+      ends-are = omega (arith, m .ends-are, more-ends (r .graph) (peel r t) u true inn, f);
+      stayed-are = omega (arith, m .stayed-are, more-cards (peel r (suc t)) u true next) }
 
 -- the counts are small
 pub mid-cards : (r : Rules) (t u : ℕ) (xs : List ℕ) (cards ends stayed : ℕ) → MidRound r t u xs cards ends stayed → (cards ≤ u) × (stayed ≤ u)
 mid-cards r t u xs cards ends stayed m = (omega (arith, m .cards-are, ones-le (peel r t) u), omega (arith, m .stayed-are, ones-le (peel r (suc t)) u))
 
 pub mid-ends : (r : Rules) (t u : ℕ) (xs : List ℕ) (cards ends stayed : ℕ) → MidRound r t u xs cards ends stayed → u ≤ 1024 → r .graph .cards ≤ 1024 → ends ≤ 1048576
-mid-ends r t u xs cards ends stayed m h n =
-    omega (arith, m .ends-are, sum-most (λ v. one (peel r t v) * partners-in (r .graph) (peel r t) v) 1024 u (λ v _. each v), mul-le-mul {n₁ = u} {m₁ = 1024} {n₂ = 1024} {m₂ = 1024} h (omega arith))
-  where
-    each : (v : ℕ) → one (peel r t v) * partners-in (r .graph) (peel r t) v ≤ 1024
-    each v = omega (arith, mul-le-mul (one-le (peel r t v)) (partners-most (r .graph) (peel r t) v))
+mid-ends r t u xs cards ends stayed m h n = omega (arith, m .ends-are, ends-few (r .graph) (peel r t) u h n)
 
 -- at the end of the round
 pub mid-levels : (r : Rules) (t u : ℕ) (xs : List ℕ) (cards ends stayed : ℕ) → MidRound r t u xs cards ends stayed → r .graph .cards ≤ u → LevelsUpTo r (suc t) (rows xs)
@@ -139,5 +129,5 @@ pub mid-counts : (r : Rules) (t u : ℕ) (xs : List ℕ) (cards ends stayed : �
     → (cards ≡ peel-cards r t) × (ends ≡ 2 * peel-links r t) × (stayed ≡ peel-cards r (suc t))
 mid-counts r t u xs cards ends stayed w m e =
     (m .cards-are ∙ ap (sum-to (λ v. one (peel r t v))) e,
-     m .ends-are ∙ ap (sum-to (λ v. one (peel r t v) * partners-in (r .graph) (peel r t) v)) e ∙ handshake (r .graph) (peel r t) w,
+     m .ends-are ∙ ap (ends-below (r .graph) (peel r t)) e ∙ handshake (r .graph) (peel r t) w,
      m .stayed-are ∙ ap (sum-to (λ v. one (peel r (suc t) v))) e)

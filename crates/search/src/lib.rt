@@ -3,5 +3,10 @@ mod best;
 mod partners;
 mod peeling;
 mod round;
+mod searched;
+mod searching;
 mod sets;
 mod setting;
+
+pub use searched::Searched;
+pub use searching::search_from;
