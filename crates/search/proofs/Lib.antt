@@ -3,3 +3,5 @@ pub mod Tallies
 pub mod Rounds
 pub mod Peelings
 pub mod Searchings
+pub mod Listings
+pub mod Finds

@@ -1,5 +1,7 @@
 // The search for a dense group of cards, on any book that can be read.
 mod best;
+mod found;
+mod group;
 mod partners;
 mod peeling;
 mod round;
@@ -8,5 +10,7 @@ mod searching;
 mod sets;
 mod setting;
 
+pub use found::Group;
+pub use group::search;
 pub use searched::Searched;
 pub use searching::search_from;
