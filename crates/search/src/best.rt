@@ -6,7 +6,7 @@ ghost use lib.Dec.{ltb};
 
 // The set of the cards at a level or higher, with its counts.
 #[derive(Clone, Copy)]
-pub struct BestSet {
+pub(crate) struct BestSet {
     pub level: u16,
     pub cards: u16,
     pub links: u32,
@@ -14,7 +14,7 @@ pub struct BestSet {
 
 impl BestSet {
     // The other set where it is denser, else this one: at a tie the first met stays.
-    pub fn or_denser(self, other: BestSet) -> BestSet
+    pub(crate) fn or_denser(self, other: BestSet) -> BestSet
         ensures { λ r. ⌜ r ≡ cond (ltb (self .links * other .cards) (other .links * self .cards)) other self ⌝ }
     {
         let mine = u64::from(self.links) * u64::from(other.cards);

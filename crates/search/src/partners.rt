@@ -6,7 +6,7 @@ use super::sets::CardSet;
 use books::ReadingBook;
 
 // Walks once over the partners of u.
-pub fn partners_in<B: ReadingBook, S: CardSet>(book: &B, set: &S, u: u16) -> u16
+pub(crate) fn partners_in<B: ReadingBook, S: CardSet>(book: &B, set: &S, u: u16) -> u16
     ensures { λ r. ⌜ r ≡ partners-in (B·ReadingBook .book (now (book .entry)) .graph) (S·CardSet .members (now (set .entry))) u ⌝ }
 {
     let mut found: u16 = 0;

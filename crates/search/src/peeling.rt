@@ -33,14 +33,14 @@ fn zeros() -> [u16; 1024]
 
 // What a peel leaves: the levels, and the best of its sets.
 #[derive(Clone, Copy)]
-pub struct Peel {
+pub(crate) struct Peel {
     pub levels: [u16; 1024],
     pub best: BestSet,
 }
 
 // The peel stops as soon as no card is left, or none is dropped. Each round walks over the partners
 // of the cards still in.
-pub fn peel_book<B: ReadingBook>(book: &B, setting: Setting) -> Peel
+pub(crate) fn peel_book<B: ReadingBook>(book: &B, setting: Setting) -> Peel
     requires least { ⌜ 1 ≤ setting .height ⌝ }
     requires most { ⌜ setting .height ≤ 1024 ⌝ }
     ensures levels { λ r. ⌜ PeelLevels (rules-of (B·ReadingBook .book (now (book .entry)) .graph) setting) (rows (r .levels)) ⌝ }

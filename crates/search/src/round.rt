@@ -12,7 +12,7 @@ use books::ReadingBook;
 
 // What a round met: the cards of its set, their partners within it added up, and how many cards stay.
 #[derive(Clone, Copy)]
-pub struct Tally {
+pub(crate) struct Tally {
     pub cards: u16,
     pub ends: u32,
     pub stayed: u16,
@@ -21,7 +21,7 @@ pub struct Tally {
 // Raises to t + 1 each card at level t whose partners at level t or higher are not below the line.
 // A raised card is still at level t or higher, so the counts of the round do not change under way.
 // Walks once over the partners of each card of the set.
-pub fn round<B: ReadingBook>(book: &B, setting: Setting, t: u16, levels: &mut [u16; 1024]) -> Tally
+pub(crate) fn round<B: ReadingBook>(book: &B, setting: Setting, t: u16, levels: &mut [u16; 1024]) -> Tally
     requires few { ⌜ t < 1024 ⌝ }
     requires before { ⌜ LevelsUpTo (rules-of (B·ReadingBook .book (now book) .graph) setting) t (rows (now levels)) ⌝ }
     ensures after { λ r. ⌜ LevelsUpTo (rules-of (B·ReadingBook .book (now (book .entry)) .graph) setting) (suc t) (rows (now (levels .exit))) ⌝ }

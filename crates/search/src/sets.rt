@@ -6,7 +6,7 @@ ghost use lib.Dec.{leb};
 ghost use lib.ListN.{getD};
 ghost use denote.Ref.{now};
 
-pub trait CardSet {
+pub(crate) trait CardSet {
     // which cards are in the set
     ghost members: { Self → ℕ → Bool };
 
@@ -16,11 +16,11 @@ pub trait CardSet {
 
 // The cards with a mark.
 #[derive(Clone, Copy)]
-pub struct Marked<'a> {
+pub(crate) struct Marked<'a> {
     pub marks: &'a [bool],
 }
 
-pub impl CardSet for Marked<'_> as MarkedSet {
+pub(crate) impl CardSet for Marked<'_> as MarkedSet {
     ghost members = { λ s v. getD (now (s .marks)) v false };
 
     fn has(&self, card: u16) -> bool {
@@ -31,12 +31,12 @@ pub impl CardSet for Marked<'_> as MarkedSet {
 
 // The cards at a level or higher.
 #[derive(Clone, Copy)]
-pub struct AtLeast<'a> {
+pub(crate) struct AtLeast<'a> {
     pub levels: &'a [u16],
     pub level: u16,
 }
 
-pub impl CardSet for AtLeast<'_> as AtLeastSet {
+pub(crate) impl CardSet for AtLeast<'_> as AtLeastSet {
     ghost members = { λ s v. leb (s .level) (getD (now (s .levels)) v 0) };
 
     fn has(&self, card: u16) -> bool {

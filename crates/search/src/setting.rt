@@ -3,7 +3,7 @@ use peel::Line;
 use peel::Tolerance;
 
 #[derive(Clone, Copy)]
-pub struct Setting {
+pub(crate) struct Setting {
     pub tolerance: Tolerance,
     pub line: Line,
     pub height: u16,
