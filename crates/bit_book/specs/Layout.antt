@@ -5,6 +5,7 @@ use Prim.Native.Nat.{ℕ, _+_, _-_, _*_, _/_, _%_, _^_}
 use lib.Bits.{bitXor}
 use lib.Dec.{eqb, ltb, leb}
 use lib.ListN.{getD, set, drop, replicate}
+use Rattle.books.specs.Books.{cards-suit}
 
 -- how many pairs n cards have
 abbrev pub pairs : ℕ → ℕ
@@ -22,9 +23,9 @@ bit-of u v = cond (ltb u v) (pair-bit u v) (pair-bit v u)
 abbrev pub needed : ℕ → ℕ
 needed n = (pairs n + 7) / 8
 
--- a book has from 1 to 1,024 cards, and a bit for each pair of them
+-- n cards suit a book, and the bytes have a bit for each pair of them
 abbrev pub suits : ℕ → ℕ → Bool
-suits n bytes = (leb 1 n && leb n 1024) && leb (needed n) bytes
+suits n bytes = cards-suit n && leb (needed n) bytes
 
 -- how many cards a new book has: as many as asked, or one where they do not suit
 abbrev pub cards-made : ℕ → ℕ → ℕ

@@ -1,7 +1,8 @@
 -- What a book means, whatever memory it stands on.
 use mathlib.Core.Path.{_≡_}
-use mathlib.Core.Bool.{Bool, true, false, cond}
+use mathlib.Core.Bool.{Bool, true, false, cond, _&&_}
 use Prim.Native.Nat.{ℕ, zero, suc, _+_, _-_, _≤_}
+use lib.Dec.{leb}
 use Rattle.std.specs.declared.option.Option.{Option}
 use Rattle.std.specs.declared.option.Option.the-variants.{Some, None}
 use Rattle.books.specs.Graphs.{Graph, Lawful}
@@ -12,6 +13,10 @@ pub record Book : Type 0 where
   pub lawful : Lawful graph
   pub least : 1 ≤ graph .cards
   pub most : graph .cards ≤ 1024
+
+-- n cards suit a book: from 1 to 1,024
+abbrev pub cards-suit : ℕ → Bool
+cards-suit n = leb 1 n && leb n 1024
 
 -- the first of the k numbers from w on that passes p
 abbrev pub first-from : (ℕ → Bool) → ℕ → ℕ → Option ℕ

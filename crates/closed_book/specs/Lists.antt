@@ -2,13 +2,14 @@
 use mathlib.Core.Bool.{Bool, true, not, cond, _&&_, _||_}
 use mathlib.Core.List.{List}
 use Prim.Native.Nat.{ℕ, zero, suc, _+_, _-_, _*_, _/_, _%_}
-use lib.Dec.{eqb, ltb, leb}
+use lib.Dec.{eqb, ltb}
 use lib.ListN.{length, getD}
 use Rattle.std.specs.Options.{isSome}
 use Rattle.std.specs.declared.option.Option.{Option}
 use Rattle.std.specs.declared.option.Option.the-variants.{Some, None}
 use Rattle.books.specs.declared.refusal.Refusal.{Refusal}
 use Rattle.books.specs.declared.refusal.Refusal.the-variants.{Unsuitable, BadList}
+use Rattle.books.specs.Books.{cards-suit}
 
 -- how many pairs of numbers the list has
 abbrev pub pair-count : List ℕ → ℕ
@@ -42,10 +43,6 @@ every test (suc k) = every test k && test k
 -- the list keeps its rule: no number is left over, and every pair keeps it
 abbrev pub list-suits : ℕ → List ℕ → Bool
 list-suits n xs = eqb (length xs % 2) 0 && every (pair-suits n xs) (pair-count xs)
-
--- n cards suit a book: from 1 to 1,024
-abbrev pub cards-suit : ℕ → Bool
-cards-suit n = leb 1 n && leb n 1024
 
 -- why no book of n cards can stand on the list, if none can
 abbrev pub list-refusal : ℕ → List ℕ → Option Refusal

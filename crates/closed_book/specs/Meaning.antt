@@ -12,8 +12,8 @@ use Rattle.std.specs.Options.{isSome}
 use Rattle.std.specs.declared.option.Option.the-variants.{Some, None}
 use Rattle.books.specs.declared.refusal.Refusal.the-variants.{Unsuitable, BadList}
 use Rattle.books.specs.Graphs.{Graph, Lawful}
-use Rattle.books.specs.Books.{Book}
-use Rattle.closed_book.specs.Lists.{pair-count, pair-at, two-cards, ascends, pair-suits, every, list-suits, cards-suit, suits}
+use Rattle.books.specs.Books.{Book, cards-suit}
+use Rattle.closed_book.specs.Lists.{pair-count, pair-at, two-cards, ascends, pair-suits, every, list-suits, suits}
 
 -- p and q are the same pair
 abbrev pub same : ℕ × ℕ → ℕ × ℕ → Bool

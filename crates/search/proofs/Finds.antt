@@ -28,7 +28,7 @@ use Rattle.search.specs.declared.found.Group.{Group}
 use Rattle.search.specs.declared.searched.Searched.{Searched}
 use Rattle.search.specs.Rows.{marked}
 use Rattle.search.specs.Outcomes.{outcome}
-use Rattle.search.specs.Answers.{list-refusal, Answered}
+use Rattle.search.specs.Answers.{group-refusal, Answered}
 use Rattle.search.proofs.Listings.{count, listed-same}
 use Rattle.search.proofs.Peelings.{size-everyone}
 
@@ -42,7 +42,7 @@ made-map (Err e) P Q f p = tt
 
 pub answered : (g : Graph) (p q k : ℕ) → Lawful g → 1 ≤ q → Height p q (g .cards) k
     → (S : Cards) → Same g S (everyone g) → (o : Outcome) → Search g p q k S o → (was is : List ℕ) (r : Result Group Refusal)
-    → errPart r ≡ list-refusal (size g (o .kept)) (length was)
+    → errPart r ≡ group-refusal (size g (o .kept)) (length was)
     → made r (λ f. (f .cards ≡ size g (o .kept)) × (f .links ≡ links-in g (o .kept)) × (f .peels ≡ o .peels))
     → is ≡ unless-refused (errPart r) was (listed (o .kept) (g .cards) ++ drop (size g (o .kept)) was)
     → Answered g p q was r is
@@ -57,7 +57,7 @@ answered g p q k w qs ht S same o s was is r refused counts list = at (search-mo
           found = (k, ht, x .1);
           only = λ a f. search-only (λ v h. refl) (x .1) (subst (λ (j : ℕ). Search g p q j (everyone g) a) (height-one (f .1) ht) (f .2));
           sound = λ j h. search-sound w qs h (subst (λ (i : ℕ). Search g p q i (everyone g) (x .0)) (height-one ht h) (x .1));
-          refused = refused ∙ ap (λ (n : ℕ). list-refusal n (length was)) cards;
+          refused = refused ∙ ap (λ (n : ℕ). group-refusal n (length was)) cards;
           counts = made-map r _ _ (λ f c. (c .0 ∙ cards, c .1 ∙ links, c .2 ∙ x .2 .peels)) counts;
           list = list ∙ (λ i. unless-refused (errPart r) was (listed-same (o .kept) (x .0 .kept) (g .cards) (x .2 .kept) i ++ drop (cards i) was)) }
 

@@ -21,8 +21,8 @@ use Rattle.peel.specs.Theorems.{Sound}
 use Rattle.search.specs.declared.found.Group.{Group}
 
 -- why a list of so many places cannot take a group of so many cards, if it cannot
-abbrev pub list-refusal : ℕ → ℕ → Option Refusal
-list-refusal cards places = cond (ltb places cards) (Some ListTooShort) None
+abbrev pub group-refusal : ℕ → ℕ → Option Refusal
+group-refusal cards places = cond (ltb places cards) (Some ListTooShort) None
 
 -- the answer r of the search by itself, on a list that was and now is
 pub record Answered (g : Graph) (p q : ℕ) (was : List ℕ) (r : Result Group Refusal) (is : List ℕ) : Type 0 where
@@ -33,7 +33,7 @@ pub record Answered (g : Graph) (p q : ℕ) (was : List ℕ) (r : Result Group R
   -- its levels are the lowest table above all zeros, every card rests below the height, and no set is much denser
   pub sound : (k : ℕ) → Height p q (g .cards) k → Sound g p q k outcome
   -- a list with fewer places than the kept set has cards is refused, and no other
-  pub refused : errPart r ≡ list-refusal (size g (outcome .kept)) (length was)
+  pub refused : errPart r ≡ group-refusal (size g (outcome .kept)) (length was)
   -- else the counts are those of the kept set and of the search
   pub counts : made r (λ f. (f .cards ≡ size g (outcome .kept)) × (f .links ≡ links-in g (outcome .kept)) × (f .peels ≡ outcome .peels))
   -- and the kept cards stand at the start of the list in ascending order, with the later places as they were

@@ -17,7 +17,7 @@ small x p q a h = elim (cases-lt 0 x) [
   | inr l ↦ l ]
 
 pub returns : need.returns
-returns c = record {
+returns c = record { count = refl; cases = record {
   height-ten = falls (omega arith) (next 1 2 10 6 (omega arith) (λ x h. omega arith))
       (falls (omega arith) (next 1 2 6 3 (omega arith) (λ x h. omega arith))
       (falls (omega arith) (next 1 2 3 1 (omega arith) (λ x h. omega arith))
@@ -36,4 +36,4 @@ returns c = record {
   half-not-below = refl;
   clique-reaches = refl;
   spread-falls-short = refl;
-}
+} }
