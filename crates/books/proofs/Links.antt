@@ -54,8 +54,9 @@ same-turn u v x y = λ i. or-turn (and-turn (eqb x u) (eqb y v) i) (and-turn (eq
 
 pub same-cases : (a b x y : ℕ) → same-pair a b x y ≡ true → ((x ≡ a) × (y ≡ b)) ⊎ ((x ≡ b) × (y ≡ a))
 same-cases a b x y h = elim (or-cases (eqb x a && eqb y b) (eqb x b && eqb y a) h) [
-    inl p ↦ inl (eqb-true _ _ (and-parts _ _ p .0), eqb-true _ _ (and-parts _ _ p .1))
-  | inr p ↦ inr (eqb-true _ _ (and-parts _ _ p .0), eqb-true _ _ (and-parts _ _ p .1)) ]
+  | inl p ↦ inl (eqb-true _ _ (and-parts _ _ p .0), eqb-true _ _ (and-parts _ _ p .1))
+  | inr p ↦ inr (eqb-true _ _ (and-parts _ _ p .0), eqb-true _ _ (and-parts _ _ p .1))
+]
 
 -- the three ways in which a pair x, y stands to a pair a, b
 pub pair-cases : (a b x y : ℕ) → ((x ≡ a) × (y ≡ b)) ⊎ (((x ≡ b) × (y ≡ a)) ⊎ (((x ≡ a) × (y ≡ b) → ⊥) × ((x ≡ b) × (y ≡ a) → ⊥)))
@@ -64,12 +65,12 @@ pair-cases a b x y =
     (λ (h : (x ≡ a) × (y ≡ b) → ⊥). ⊎-elim (λ k. inr (inl k)) (λ (k : (x ≡ b) × (y ≡ a) → ⊥). inr (inr (h, k))) (both x y b a))
     (both x y a b)
   where
-  both : (x y a b : ℕ) → ((x ≡ a) × (y ≡ b)) ⊎ ((x ≡ a) × (y ≡ b) → ⊥)
-  both x y a b =
-      ⊎-elim
-      (λ (e : x ≡ a). ⊎-elim (λ (f : y ≡ b). inl (e, f)) (λ (f : y ≡ b → ⊥). inr (λ z. f (z .1))) (cases-eq y b))
-      (λ (e : x ≡ a → ⊥). inr (λ z. e (z .0)))
-      (cases-eq x a)
+    both : (x y a b : ℕ) → ((x ≡ a) × (y ≡ b)) ⊎ ((x ≡ a) × (y ≡ b) → ⊥)
+    both x y a b =
+        ⊎-elim
+        (λ (e : x ≡ a). ⊎-elim (λ (f : y ≡ b). inl (e, f)) (λ (f : y ≡ b → ⊥). inr (λ z. f (z .1))) (cases-eq y b))
+        (λ (e : x ≡ a → ⊥). inr (λ z. e (z .0)))
+        (cases-eq x a)
 
 -- two graphs that differ at the pair a, b alone, where only the second has the link
 pub one-link-more : (n : ℕ) (f h : ℕ → ℕ → Bool) (a b : ℕ) → a < n → b < n → (a ≡ b → ⊥)
@@ -82,12 +83,12 @@ one-link-more n f h a b ha hb ne ef eh out held same =
     (λ (l : b ≤ a). let m : b < a = omega arith in ordered a b ha m out held (λ x y p q. same-other a b x y (λ z. p (z .0) (z .1)) (λ z. omega (arith, z .0, z .1))))
     (cases-lt a b)
   where
-  ordered : (hi lo : ℕ) → hi < n → lo < hi → f hi lo ≡ false → h hi lo ≡ true
-      → ((x y : ℕ) → (x ≡ hi → y ≡ lo → ⊥) → y < x → same-pair a b x y ≡ false)
-      → pair-sum (λ v u. one (h v u)) n ≡ pair-sum (λ v u. one (f v u)) n + 1
-  ordered hi lo hn l e t s =
-      pairs-point (λ v u. one (h v u)) (λ v u. one (f v u)) n hi lo 1 hn l (omega (arith, ap one e, ap one t))
-      (λ v u m d. ap one (same v u (s v u d m)))
+    ordered : (hi lo : ℕ) → hi < n → lo < hi → f hi lo ≡ false → h hi lo ≡ true
+        → ((x y : ℕ) → (x ≡ hi → y ≡ lo → ⊥) → y < x → same-pair a b x y ≡ false)
+        → pair-sum (λ v u. one (h v u)) n ≡ pair-sum (λ v u. one (f v u)) n + 1
+    ordered hi lo hn l e t s =
+        pairs-point (λ v u. one (h v u)) (λ v u. one (f v u)) n hi lo 1 hn l (omega (arith, ap one e, ap one t))
+        (λ v u m d. ap one (same v u (s v u d m)))
 
 -- the ends of a link that may be put in
 pub record Ends (g : Graph) (u v : ℕ) : Type 0 where
@@ -97,19 +98,23 @@ pub record Ends (g : Graph) (u v : ℕ) : Type 0 where
 
 pub with-lawful : (g : Graph) (u v : ℕ) → Lawful g → Ends g u v → Lawful (with-link g u v)
 with-lawful g u v w en = record {
-    even = λ x y. λ i. cond (same-turn u v x y i) true (w .even x y i);
-    apart = λ x. cond-false _ _ _ (same-other u v x x (λ z. en .differ (sym (z .0) ∙ z .1)) (λ z. en .differ (sym (z .1) ∙ z .0))) ∙ w .apart x;
-    inside = λ x y h. elim (cases-bool (same-pair u v x y)) [
-        inl s ↦ elim (same-cases u v x y s) [ inl z ↦ omega (arith, z .0, en .first) | inr z ↦ omega (arith, z .0, en .second) ]
-      | inr f ↦ w .inside x y (sym (cond-false _ _ _ f) ∙ h) ] }
+  even = λ x y. λ i. cond (same-turn u v x y i) true (w .even x y i);
+  apart = λ x. cond-false _ _ _ (same-other u v x x (λ z. en .differ (sym (z .0) ∙ z .1)) (λ z. en .differ (sym (z .1) ∙ z .0))) ∙ w .apart x;
+  inside = λ x y h. elim (cases-bool (same-pair u v x y)) [
+    | inl s ↦ elim (same-cases u v x y s) [ inl z ↦ omega (arith, z .0, en .first) | inr z ↦ omega (arith, z .0, en .second) ]
+    | inr f ↦ w .inside x y (sym (cond-false _ _ _ f) ∙ h)
+  ];
+}
 
 pub without-lawful : (g : Graph) (u v : ℕ) → Lawful g → Lawful (without-link g u v)
 without-lawful g u v w = record {
-    even = λ x y. λ i. cond (same-turn u v x y i) false (w .even x y i);
-    apart = λ x. elim (cases-bool (same-pair u v x x)) [ inl s ↦ cond-true _ _ _ s | inr f ↦ cond-false _ _ _ f ∙ w .apart x ];
-    inside = λ x y h. elim (cases-bool (same-pair u v x y)) [
-        inl s ↦ absurd (let z : _≡_ {A = ℕ} 0 1 = ap one (sym (cond-true _ false (g .linked x y) s) ∙ h) in omega arith)
-      | inr f ↦ w .inside x y (sym (cond-false _ _ _ f) ∙ h) ] }
+  even = λ x y. λ i. cond (same-turn u v x y i) false (w .even x y i);
+  apart = λ x. elim (cases-bool (same-pair u v x x)) [ inl s ↦ cond-true _ _ _ s | inr f ↦ cond-false _ _ _ f ∙ w .apart x ];
+  inside = λ x y h. elim (cases-bool (same-pair u v x y)) [
+    | inl s ↦ absurd (let z : _≡_ {A = ℕ} 0 1 = ap one (sym (cond-true _ false (g .linked x y) s) ∙ h) in omega arith)
+    | inr f ↦ w .inside x y (sym (cond-false _ _ _ f) ∙ h)
+  ];
+}
 
 pub with-count : (g : Graph) (u v : ℕ) → Lawful g → Ends g u v → g .linked u v ≡ false → link-count (with-link g u v) ≡ link-count g + 1
 with-count g u v w en out =

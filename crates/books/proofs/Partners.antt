@@ -28,13 +28,16 @@ first-some p zero w x h = absurd (none-some x h)
 first-some p (suc k) w x h =
     ⊎-elim
     (λ (e : p w ≡ true).
-      let s : Some w ≡ Some x = sym (cond-true (p w) (Some w) (first-from p k (w + 1)) e) ∙ h in
-      let q : w ≡ x = cc in
-      (omega arith, omega arith, rw (← q) e, λ y l m. absurd (omega arith)))
+    let s : Some w ≡ Some x = sym (cond-true (p w) (Some w) (first-from p k (w + 1)) e) ∙ h in
+    let q : w ≡ x = cc in
+    (omega arith, omega arith, rw (← q) e, λ y l m. absurd (omega arith)))
     (λ (e : p w ≡ false).
-      let r = first-some p k (w + 1) x (sym (cond-false (p w) (Some w) (first-from p k (w + 1)) e) ∙ h) in
-      (omega (arith, r .0), omega (arith, r .1), r .2,
-        λ y l m. ⊎-elim (λ (q : y ≡ w). rw q e) (λ (q : y ≡ w → ⊥). r .3 y (omega arith) m) (cases-eq y w)))
+    let r = first-some p k (w + 1) x (sym (cond-false (p w) (Some w) (first-from p k (w + 1)) e) ∙ h) in (
+      omega (arith, r .0),
+      omega (arith, r .1),
+      r .2,
+      λ y l m. ⊎-elim (λ (q : y ≡ w). rw q e) (λ (q : y ≡ w → ⊥). r .3 y (omega arith) m) (cases-eq y w),
+    ))
     (cases-bool (p w))
 
 first-all : (p : ℕ → Bool) (k w : ℕ) → first-from p k w ≡ None → (y : ℕ) → w ≤ y → y < w + k → p y ≡ false
@@ -43,9 +46,9 @@ first-all p (suc k) w h y l m =
     ⊎-elim
     (λ (e : p w ≡ true). absurd (none-some w (sym (sym (cond-true (p w) (Some w) (first-from p k (w + 1)) e) ∙ h))))
     (λ (e : p w ≡ false).
-      ⊎-elim (λ (q : y ≡ w). rw q e)
-      (λ (q : y ≡ w → ⊥). first-all p k (w + 1) (sym (cond-false (p w) (Some w) (first-from p k (w + 1)) e) ∙ h) y (omega arith) (omega arith))
-      (cases-eq y w))
+    ⊎-elim (λ (q : y ≡ w). rw q e)
+    (λ (q : y ≡ w → ⊥). first-all p k (w + 1) (sym (cond-false (p w) (Some w) (first-from p k (w + 1)) e) ∙ h) y (omega arith) (omega arith))
+    (cases-eq y w))
     (cases-bool (p w))
 
 -- a partner of u that is not below w, with none between

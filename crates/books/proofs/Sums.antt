@@ -42,36 +42,43 @@ sum-none f n h = omega (arith, sum-most f 0 n (λ i l. omega (arith, h i l)))
 pub sum-at : (f : ℕ → ℕ) (n i : ℕ) → i < n → f i ≤ sum-to f n
 sum-at f zero i h = omega arith
 sum-at f (suc n) i h = elim (cases-eq i n) [
-    inl e ↦ omega (arith, ap f e)
-  | inr e ↦ omega (arith, sum-at f n i (omega arith)) ]
+  | inl e ↦ omega (arith, ap f e)
+  | inr e ↦ omega (arith, sum-at f n i (omega arith))
+]
 
 pub sum-lt : (f h : ℕ → ℕ) (n i : ℕ) → i < n → ((j : ℕ) → j < n → f j ≤ h j) → f i < h i → sum-to f n < sum-to h n
 sum-lt f h zero i l c s = omega arith
 sum-lt f h (suc n) i l c s = elim (cases-eq i n) [
-    inl e ↦ omega (arith, ap f e, ap h e, sum-le f h n (λ j k. c j (omega arith)))
-  | inr e ↦ omega (arith, sum-lt f h n i (omega arith) (λ j k. c j (omega arith)) s, c n (omega arith)) ]
+  | inl e ↦ omega (arith, ap f e, ap h e, sum-le f h n (λ j k. c j (omega arith)))
+  | inr e ↦ omega (arith, sum-lt f h n i (omega arith) (λ j k. c j (omega arith)) s, c n (omega arith))
+]
 
 -- two sums that differ at one place
 pub sum-point : (f h : ℕ → ℕ) (n i d : ℕ) → i < n → f i ≡ h i + d → ((j : ℕ) → j < n → (j ≡ i → ⊥) → f j ≡ h j) → sum-to f n ≡ sum-to h n + d
 sum-point f h zero i d l e c = absurd (omega arith)
 sum-point f h (suc n) i d l e c = elim (cases-eq i n) [
-    inl z ↦ omega (arith, e, ap f z, ap h z, sum-eq f h n (λ j k. c j (omega arith) (λ x. omega arith)))
-  | inr z ↦ omega (arith, sum-point f h n i d (omega arith) e (λ j k x. c j (omega arith) x), c n (omega arith) (λ x. z (sym x))) ]
+  | inl z ↦ omega (arith, e, ap f z, ap h z, sum-eq f h n (λ j k. c j (omega arith) (λ x. omega arith)))
+  | inr z ↦ omega (arith, sum-point f h n i d (omega arith) e (λ j k x. c j (omega arith) x), c n (omega arith) (λ x. z (sym x)))
+]
 
 -- terms that are 0 from a to b add nothing
 pub sum-skip : (f : ℕ → ℕ) (a b : ℕ) → a ≤ b → ((i : ℕ) → a ≤ i → i < b → f i ≡ 0) → sum-to f b ≡ sum-to f a
 sum-skip f a zero l h = let e : 0 ≡ a = omega arith in ap (sum-to f) e
 sum-skip f a (suc b) l h = elim (cases-eq a (suc b)) [
-    inl e ↦ ap (sum-to f) (sym e)
-  | inr n ↦ omega (arith, sum-skip f a b (omega arith) (λ i x y. h i x (omega arith)), h b (omega arith) (omega arith)) ]
+  | inl e ↦ ap (sum-to f) (sym e)
+  | inr n ↦ omega (arith, sum-skip f a b (omega arith) (λ i x y. h i x (omega arith)), h b (omega arith) (omega arith))
+]
 
 -- a square is its two halves and its diagonal
 pub square : (c : ℕ → ℕ → ℕ) (n : ℕ) →
     sum-to (λ v. sum-to (λ u. c v u) n) n ≡ pair-sum (λ v u. c v u + c u v) n + sum-to (λ v. c v v) n
 square c zero = refl
-square c (suc n) = omega (arith, square c n,
-    sum-add (λ v. sum-to (λ u. c v u) n) (λ v. c v n) n,
-    sum-add (λ u. c n u) (λ u. c u n) n)
+square c (suc n) = omega (
+  arith,
+  square c n,
+  sum-add (λ v. sum-to (λ u. c v u) n) (λ v. c v n) n,
+  sum-add (λ u. c n u) (λ u. c u n) n,
+)
 
 pub pairs-le : (c d : ℕ → ℕ → ℕ) (n : ℕ) → ((v u : ℕ) → u < v → v < n → c v u ≤ d v u) → pair-sum c n ≤ pair-sum d n
 pairs-le c d n h = sum-le _ _ n (λ v l. sum-le _ _ v (λ u m. h v u m l))
@@ -108,8 +115,9 @@ tri-is n = rw (tri-double n) (mul-div-left (tri n) (omega arith))
 pub tri-le : (v n : ℕ) → v ≤ n → tri v ≤ tri n
 tri-le v zero h = let e : v ≡ 0 = omega arith in omega (arith, ap tri e)
 tri-le v (suc n) h = elim (cases-eq v (suc n)) [
-    inl e ↦ omega (arith, ap tri e)
-  | inr ne ↦ omega (arith, tri-le v n (omega arith)) ]
+  | inl e ↦ omega (arith, ap tri e)
+  | inr ne ↦ omega (arith, tri-le v n (omega arith))
+]
 
 pub tri-small : (n : ℕ) → n ≤ 1024 → tri n ≤ 523776
 tri-small n h = omega (arith, tri-le n 1024 h)

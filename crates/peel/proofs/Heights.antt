@@ -6,9 +6,10 @@ use native.Mathlib.Omega.{arith}
 use Rattle.peel.specs.Tolerances.{Next, Height, stands, falls}
 
 pub next-is : (p q c : ℕ) → 1 ≤ p → p ≤ q → 0 < c → Next p q c ((c * q - 1) / (q + p))
-next-is p q c a b h =
-    (omega (arith, le-div-iff-mul-le {k = q + p} {x = (c * q - 1) / (q + p)} {y = c * q - 1} (omega arith) .0 (omega arith), mul-pos {m = c} {n = q} h (omega arith)),
-    λ x l. le-div-iff-mul-le (omega arith) .1 (omega arith))
+next-is p q c a b h = (
+  omega (arith, le-div-iff-mul-le {k = q + p} {x = (c * q - 1) / (q + p)} {y = c * q - 1} (omega arith) .0 (omega arith), mul-pos {m = c} {n = q} h (omega arith)),
+  λ x l. le-div-iff-mul-le (omega arith) .1 (omega arith),
+)
 
 pub next-less : (p q c d : ℕ) → Next p q c d → d < c
 next-less p q c d nx = lt-of-mul-lt-mul-right q (omega (arith, nx .0))

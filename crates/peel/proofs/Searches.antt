@@ -25,10 +25,12 @@ use Rattle.peel.proofs.Bests.{densest-only}
 -- a best set that falls short shows that every set does
 all-short : (r : Rules) (i : ℕ) → Best r i → reaches-at r i ≡ false → (t : ℕ) → t < r .height → Quiet r t
 all-short r i b sh t h = elim (cases-eq (peel-cards r t) 0) [
-    inl z ↦ inl z
+  | inl z ↦ inl z
   | inr n ↦ elim (cases-bool (reaches-at r t)) [
-      inr f ↦ inr f
-    | inl y ↦ absurd (both-ways _ sh (reach-up (r .p) (r .q) (r .line) _ _ _ _ (omega arith) (b .some) (b .highest t h (omega arith)) y)) ] ]
+    | inr f ↦ inr f
+    | inl y ↦ absurd (both-ways _ sh (reach-up (r .p) (r .q) (r .line) _ _ _ _ (omega arith) (b .some) (b .highest t h (omega arith)) y))
+  ]
+]
 
 pub search-sound : {g : Graph} {p q k : ℕ} → Lawful g → 1 ≤ q → Height p q (g .cards) k
     → {K : Cards} {o : Outcome} → Search g p q k K o → Sound g p q k o
@@ -61,8 +63,12 @@ set-same r r′ e t t′ b b′ v = λ i. peel (e i) (best-same r r′ e t t′ 
 
 pub search-only : {g : Graph} {p q k : ℕ} {K K′ : Cards} {o o′ : Outcome} → Same g K K′ → Search g p q k K o → Search g p q k K′ o′ → Alike g o o′
 search-only {g} {p} {q} {k} {K} {K′} same (ends {L = L} t b sh lv) (ends {L = M} t′ b′ sh′ lv′) =
-    record { kept = same; line = line-same g K K′ same; peels = refl
-           ; levels = levels-only (rules-from g p q k K) k L M lv (subst (λ (r : Rules). PeelLevels r M) (sym (rules-same g p q k K K′ same)) lv′) }
+    record {
+      kept = same;
+      line = line-same g K K′ same;
+      peels = refl;
+      levels = levels-only (rules-from g p q k K) k L M lv (subst (λ (r : Rules). PeelLevels r M) (sym (rules-same g p q k K K′ same)) lv′);
+    }
 search-only {g} {p} {q} {k} {K} {K′} same (ends t b sh lv) (again t′ b′ re′ same′ s′) =
     absurd (both-ways _ (sym (reach-same _ _ (rules-same g p q k K K′ same) t t′ b b′) ∙ sh) re′)
 search-only {g} {p} {q} {k} {K} {K′} same (again t b re same₁ s) (ends t′ b′ sh′ lv′) =
@@ -75,16 +81,18 @@ search-only {g} {p} {q} {k} {K} {K′} same (again {B = B} {o = o} t b re same�
 pub search-move : {g : Graph} {p q k : ℕ} {K K′ : Cards} {o : Outcome} → Same g K K′ → Search g p q k K o
     → (o′ : Outcome) × Search g p q k K′ o′ × Alike g o o′
 search-move {g} {p} {q} {k} {K} {K′} same (ends {L = L} t b sh lv) =
-    let e : rules-from g p q k K ≡ rules-from g p q k K′ = rules-same g p q k K K′ same in
-    (record { kept = K′; line = line-of g K′; levels = L; peels = 1 },
-     ends t (subst (λ (r : Rules). Best r t) e b) (subst (λ (r : Rules). reaches-at r t ≡ false) e sh) (subst (λ (r : Rules). PeelLevels r L) e lv),
-     record { kept = same; line = line-same g K K′ same; levels = λ v h. refl; peels = refl })
+    let e : rules-from g p q k K ≡ rules-from g p q k K′ = rules-same g p q k K K′ same in (
+      record { kept = K′; line = line-of g K′; levels = L; peels = 1 },
+      ends t (subst (λ (r : Rules). Best r t) e b) (subst (λ (r : Rules). reaches-at r t ≡ false) e sh) (subst (λ (r : Rules). PeelLevels r L) e lv),
+      record { kept = same; line = line-same g K K′ same; levels = λ v h. refl; peels = refl },
+    )
 search-move {g} {p} {q} {k} {K} {K′} same (again {B = B} {o = o} t b re same₁ s) =
-    let e : rules-from g p q k K ≡ rules-from g p q k K′ = rules-same g p q k K K′ same in
-    (record { kept = o .kept; line = o .line; levels = o .levels; peels = suc (o .peels) },
-     again t (subst (λ (r : Rules). Best r t) e b) (subst (λ (r : Rules). reaches-at r t ≡ true) e re)
-       (subst (λ (r : Rules). Same g B (peel r t)) e same₁) s,
-     record { kept = λ v h. refl; line = refl; levels = λ v h. refl; peels = refl })
+    let e : rules-from g p q k K ≡ rules-from g p q k K′ = rules-same g p q k K K′ same in (
+      record { kept = o .kept; line = o .line; levels = o .levels; peels = suc (o .peels) },
+      again t (subst (λ (r : Rules). Best r t) e b) (subst (λ (r : Rules). reaches-at r t ≡ true) e re)
+          (subst (λ (r : Rules). Same g B (peel r t)) e same₁) s,
+      record { kept = λ v h. refl; line = refl; levels = λ v h. refl; peels = refl },
+    )
 
 -- how dense a set is, as a whole number that grows with each step of a search
 pub rank : Graph → Cards → ℕ
@@ -107,23 +115,29 @@ rank-empty : (g : Graph) → Lawful g → (K B : Cards) → size g K ≡ 0 → 0
 unfolding rank
 rank-empty g w K B z pb pl =
     let none : g .cards * g .cards * links-in g K ≡ 0 =
-          let l : links-in g K ≤ 0 = omega (arith, links-le g w K, mul-le-mul-left {m = size g K} {n = 0} (g .cards) (omega (arith, z))) in
-          omega (arith, mul-le-mul-left (g .cards * g .cards) l) in
+    let l : links-in g K ≤ 0 = omega (arith, links-le g w K, mul-le-mul-left {m = size g K} {n = 0} (g .cards) (omega (arith, z))) in
+    omega (arith, mul-le-mul-left (g .cards * g .cards) l) in
     let low : rank g K ≡ 0 = ap (λ (x : ℕ). x / size g K) none ∙ zero-div (size g K) in
     let n : 1 ≤ g .cards = omega (arith, size-le g B) in
     let high : 1 ≤ rank g B =
-          le-div-iff-mul-le pb .1 (omega (arith, size-le g B, mul-le-mul {n₁ = 1} {m₁ = g .cards} {n₂ = g .cards} {m₂ = g .cards} n (le-refl _),
-              mul-le-mul-left {m = 1} {n = links-in g B} (g .cards * g .cards) pl)) in
+    le-div-iff-mul-le pb .1 (omega (
+      arith,
+      size-le g B,
+      mul-le-mul {n₁ = 1} {m₁ = g .cards} {n₂ = g .cards} {m₂ = g .cards} n (le-refl _),
+      mul-le-mul-left {m = 1} {n = links-in g B} (g .cards * g .cards) pl,
+    )) in
     omega (arith, low, high)
 
 -- a best set that reaches the line of K outranks K
 pub rank-grows : (g : Graph) (p q : ℕ) → Lawful g → 1 ≤ p → (K B : Cards) → 0 < size g B
     → reaches p q (line-of g K) (links-in g B) (size g B) ≡ true → rank g K < rank g B
 rank-grows g p q w ps K B pb re = elim (cases-eq (size g K) 0) [
-    inr n ↦ rank-denser g K B (omega arith) pb (reach-denser p q ps (line-of g K) _ _ (omega arith) pb re)
+  | inr n ↦ rank-denser g K B (omega arith) pb (reach-denser p q ps (line-of g K) _ _ (omega arith) pb re)
   | inl z ↦ rank-empty g w K B z pb (elim (reach-of p q (line-of g K) (links-in g B) (size g B) re) [
-      inl y ↦ y .1
-    | inr y ↦ absurd (omega (arith, y .0, links-le g w K, mul-le-mul-left {m = size g K} {n = 0} (g .cards) (omega (arith, z)))) ]) ]
+    | inl y ↦ y .1
+    | inr y ↦ absurd (omega (arith, y .0, links-le g w K, mul-le-mul-left {m = size g K} {n = 0} (g .cards) (omega (arith, z))))
+  ])
+]
 
 pub rank-same : (g : Graph) (X Y : Cards) → Same g X Y → rank g X ≡ rank g Y
 unfolding rank

@@ -19,7 +19,8 @@ impl Line {
         }
         let q = u64::from(tolerance.q());
         let sum = q + u64::from(tolerance.p());
-        u64::from(partners) * u64::from(self.cards) * (q * q) < 2 * (sum * sum) * u64::from(self.links)
+        u64::from(partners) * u64::from(self.cards) * (q * q)
+            < 2 * (sum * sum) * u64::from(self.links)
     }
 
     // Whether a set of so many links and cards reaches the line.
@@ -31,6 +32,7 @@ impl Line {
         }
         let q = u64::from(tolerance.q());
         let sum = q + u64::from(tolerance.p());
-        u64::from(links) * u64::from(self.cards) * q >= sum * u64::from(self.links) * u64::from(cards)
+        u64::from(links) * u64::from(self.cards) * q
+            >= sum * u64::from(self.links) * u64::from(cards)
     }
 }

@@ -59,7 +59,8 @@ answered g p q k w qs ht S same o s was is r refused counts list = at (search-mo
           sound = λ j h. search-sound w qs h (subst (λ (i : ℕ). Search g p q i (everyone g) (x .0)) (height-one ht h) (x .1));
           refused = refused ∙ ap (λ (n : ℕ). group-refusal n (length was)) cards;
           counts = made-map r _ _ (λ f c. (c .0 ∙ cards, c .1 ∙ links, c .2 ∙ x .2 .peels)) counts;
-          list = list ∙ (λ i. unless-refused (errPart r) was (listed-same (o .kept) (x .0 .kept) (g .cards) (x .2 .kept) i ++ drop (cards i) was)) }
+          list = list ∙ (λ i. unless-refused (errPart r) was (listed-same (o .kept) (x .0 .kept) (g .cards) (x .2 .kept) i ++ drop (cards i) was));
+        }
 
 -- what is known of the search that the code ran, from a mark in every row
 pub record Ran (b : Book) (p q : ℕ) (s : Searched) : Type 0 where

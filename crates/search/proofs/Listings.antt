@@ -21,8 +21,9 @@ count X u = sum-to (λ v. one (X v)) u
 count-mono : (X : Cards) (a b : ℕ) → a ≤ b → count X a ≤ count X b
 count-mono X a zero h = let e : a ≡ 0 = omega arith in omega (arith, ap (count X) e)
 count-mono X a (suc b) h = elim (cases-eq a (suc b)) [
-    inl e ↦ omega (arith, ap (count X) e)
-  | inr n ↦ omega (arith, count-mono X a b (omega arith)) ]
+  | inl e ↦ omega (arith, ap (count X) e)
+  | inr n ↦ omega (arith, count-mono X a b (omega arith))
+]
 
 -- a member below n has a place among those below n
 pub count-below : (X : Cards) (u n : ℕ) → u < n → X u ≡ true → count X u < count X n
@@ -51,12 +52,13 @@ written-out X u at was is e w =
     (omega (arith, w .0, more-cards X u false e), w .1 ∙ ap (λ (xs : List ℕ). xs ++ drop at was) (sym (listed-out X u e)))
 
 pub written-in : (X : Cards) (u at : ℕ) (was is : List ℕ) → X u ≡ true → at < length was → Written X u at was is → Written X (u + 1) (at + 1) was (set is at u)
-written-in X u at was is e l w =
-    (omega (arith, w .0, more-cards X u true e),
-     ap (λ (xs : List ℕ). set xs at u) (w .1 ∙ ap (λ (xs : List ℕ). listed X u ++ xs) (drop-more was at 0 l))
-     ∙ set-at (listed X u) (getD was at 0) (drop (at + 1) was) u at (listed-length X u ∙ sym (w .0))
-     ∙ sym (append-assoc (listed X u) (u ∷ []) (drop (at + 1) was))
-     ∙ ap (λ (xs : List ℕ). xs ++ drop (at + 1) was) (sym (listed-in X u e)))
+written-in X u at was is e l w = (
+  omega (arith, w .0, more-cards X u true e),
+  ap (λ (xs : List ℕ). set xs at u) (w .1 ∙ ap (λ (xs : List ℕ). listed X u ++ xs) (drop-more was at 0 l))
+      ∙ set-at (listed X u) (getD was at 0) (drop (at + 1) was) u at (listed-length X u ∙ sym (w .0))
+      ∙ sym (append-assoc (listed X u) (u ∷ []) (drop (at + 1) was))
+      ∙ ap (λ (xs : List ℕ). xs ++ drop (at + 1) was) (sym (listed-in X u e)),
+)
 
 -- sets with the same members are listed alike
 pub listed-same : (X Y : Cards) (n : ℕ) → ((v : ℕ) → v < n → X v ≡ Y v) → listed X n ≡ listed Y n

@@ -56,7 +56,9 @@ peeling-start r xs b some long zeros z n l =
       best = subst (λ (i : ℕ). Densest (peel-links r) (peel-cards r) 1 i) (sym z) (densest-one (peel-links r) (peel-cards r) pos);
       counted = record {
         cards = n ∙ sym (size-everyone (r .graph)) ∙ ap (peel-cards r) (sym z);
-        links = l ∙ sym (links-everyone (r .graph)) ∙ ap (peel-links r) (sym z) } }
+        links = l ∙ sym (links-everyone (r .graph)) ∙ ap (peel-links r) (sym z);
+      };
+    }
 
 -- the best so far, the set t among them
 pub record Bettered (r : Rules) (t : ℕ) (b : BestSet) : Type 0 where
@@ -68,16 +70,17 @@ pub better : (r : Rules) (t : ℕ) (xs : List ℕ) (b new b′ : BestSet) → Pe
     → b′ ≡ cond (ltb (b .links * new .cards) (new .links * b .cards)) new b → Bettered r t b′
 better r t xs b new b′ m z n l e =
     let test : ltb (b .links * new .cards) (new .links * b .cards) ≡ ltb (peel-links r (b .level) * peel-cards r t) (peel-links r t * peel-cards r (b .level))
-          = λ i. ltb (m .counted .links i * n i) (l i * m .counted .cards i) in
+    = λ i. ltb (m .counted .links i * n i) (l i * m .counted .cards i) in
     let old : Densest (peel-links r) (peel-cards r) (suc t) (cond (ltb (b .links * new .cards) (new .links * b .cards)) t (b .level))
-          = subst (λ (c : Bool). Densest (peel-links r) (peel-cards r) (suc t) (cond c t (b .level))) (sym test)
-            (densest-step (peel-links r) (peel-cards r) t (b .level) (m .some) (m .best)) in
+    = subst (λ (c : Bool). Densest (peel-links r) (peel-cards r) (suc t) (cond c t (b .level))) (sym test)
+    (densest-step (peel-links r) (peel-cards r) t (b .level) (m .some) (m .best)) in
     subst (λ (x : BestSet). Bettered r t x) (sym e) (pick (ltb (b .links * new .cards) (new .links * b .cards)) old)
   where
     pick : (c : Bool) → Densest (peel-links r) (peel-cards r) (suc t) (cond c t (b .level)) → Bettered r t (cond c new b)
     pick true d = record {
-        best = subst (λ (i : ℕ). Densest (peel-links r) (peel-cards r) (suc t) i) (sym z) d;
-        counted = record { cards = n ∙ ap (peel-cards r) (sym z); links = l ∙ ap (peel-links r) (sym z) } }
+      best = subst (λ (i : ℕ). Densest (peel-links r) (peel-cards r) (suc t) i) (sym z) d;
+      counted = record { cards = n ∙ ap (peel-cards r) (sym z); links = l ∙ ap (peel-links r) (sym z) };
+    }
     pick false d = record { best = d; counted = m .counted }
 
 -- on to the next round
@@ -91,7 +94,8 @@ peeling-next r t xs b long lv some d =
       levels = subst (λ (j : ℕ). LevelsUpTo r j (rows xs)) e lv;
       some = subst (λ (j : ℕ). 0 < peel-cards r j) e (pos (peel-cards r (suc t)) some);
       best = subst (λ (j : ℕ). Densest (peel-links r) (peel-cards r) j (b .level)) f (d .best);
-      counted = d .counted }
+      counted = d .counted;
+    }
   where
     pos : (n : ℕ) → (n ≡ 0 → ⊥) → 0 < n
     pos n h = omega arith
@@ -109,22 +113,25 @@ peeled-all r t xs b pos e m =
     record {
       levels = subst (λ (j : ℕ). LevelsUpTo r j (rows xs)) e (m .levels);
       best = subst (λ (j : ℕ). Densest (peel-links r) (peel-cards r) j (b .level)) f (m .best);
-      counted = m .counted }
+      counted = m .counted;
+    }
 
 -- no card is left
 pub peeled-empty : (r : Rules) (t : ℕ) (xs : List ℕ) (b : BestSet) → t < r .height → LevelsUpTo r (suc t) (rows xs) → peel-cards r (suc t) ≡ 0
     → Bettered r t b → Peeled r xs b
 peeled-empty r t xs b l lv z d = record {
-    levels = levels-empty r (suc t) (r .height) (rows xs) l z lv;
-    best = densest-extends (peel-links r) (peel-cards r) (suc t) (r .height) (b .level) l (d .best) (λ j a _. inl (none-later r (suc t) j z a));
-    counted = d .counted }
+  levels = levels-empty r (suc t) (r .height) (rows xs) l z lv;
+  best = densest-extends (peel-links r) (peel-cards r) (suc t) (r .height) (b .level) l (d .best) (λ j a _. inl (none-later r (suc t) j z a));
+  counted = d .counted;
+}
 
 -- no card is dropped
 pub peeled-still : (r : Rules) (t : ℕ) (xs ys : List ℕ) (b : BestSet) → t < r .height → r .graph .cards ≤ 1024 → LevelsUpTo r (suc t) (rows xs)
     → peel-cards r (suc t) ≡ peel-cards r t → ((v : ℕ) → v < 1024 → rows ys v ≡ cond (ltb t (rows xs v)) (r .height) (rows xs v))
     → Bettered r t b → Peeled r ys b
 peeled-still r t xs ys b l few lv e is d = record {
-    levels = levels-lifted r t (r .height) (rows xs) (rows ys) l e lv (λ v h. is v (omega arith));
-    best = densest-extends (peel-links r) (peel-cards r) (suc t) (r .height) (b .level) l (d .best)
-        (λ j a _. inr (t, omega arith, links-same (r .graph) _ _ (stays-to r t j (omega arith) e), size-same (r .graph) _ _ (stays-to r t j (omega arith) e)));
-    counted = d .counted }
+  levels = levels-lifted r t (r .height) (rows xs) (rows ys) l e lv (λ v h. is v (omega arith));
+  best = densest-extends (peel-links r) (peel-cards r) (suc t) (r .height) (b .level) l (d .best)
+      (λ j a _. inr (t, omega arith, links-same (r .graph) _ _ (stays-to r t j (omega arith) e), size-same (r .graph) _ _ (stays-to r t j (omega arith) e)));
+  counted = d .counted;
+}

@@ -36,10 +36,13 @@ pub record MidRound (r : Rules) (t u : ℕ) (xs : List ℕ) (cards ends stayed :
 
 pub mid-start : (r : Rules) (t : ℕ) (xs : List ℕ) → length xs ≡ 1024 → LevelsUpTo r t (rows xs) → MidRound r t 0 xs 0 0 0
 mid-start r t xs long lv = record {
-    long = long;
-    done = λ v l h. absurd (omega arith);
-    left = λ v l h. levels-only r t (rows xs) (level-to r t) lv (level-is r t) v h;
-    cards-are = refl; ends-are = refl; stayed-are = refl }
+  long = long;
+  done = λ v l h. absurd (omega arith);
+  left = λ v l h. levels-only r t (rows xs) (level-to r t) lv (level-is r t) v h;
+  cards-are = refl;
+  ends-are = refl;
+  stayed-are = refl;
+}
 
 -- the same state under other names
 pub mid-at : (r : Rules) (t u : ℕ) (xs xs′ : List ℕ) (cards cards′ ends ends′ stayed stayed′ : ℕ) → xs′ ≡ xs → cards′ ≡ cards → ends′ ≡ ends → stayed′ ≡ stayed
@@ -49,8 +52,9 @@ mid-at r t u xs xs′ cards cards′ ends ends′ stayed stayed′ a b c d m = r
 -- all along the cards at level t or higher are the set t
 pub mid-set : (r : Rules) (t u : ℕ) (xs : List ℕ) (cards ends stayed : ℕ) → MidRound r t u xs cards ends stayed → Same (r .graph) (at-least (rows xs) t) (peel r t)
 mid-set r t u xs cards ends stayed m v h = elim (cases-lt v u) [
-    inl l ↦ ap (leb t) (m .done v l h) ∙ level-set r (suc t) (level-to r (suc t)) (level-is r (suc t)) t (omega arith) v h
-  | inr l ↦ ap (leb t) (m .left v l h) ∙ level-set r t (level-to r t) (level-is r t) t (omega arith) v h ]
+  | inl l ↦ ap (leb t) (m .done v l h) ∙ level-set r (suc t) (level-to r (suc t)) (level-is r (suc t)) t (omega arith) v h
+  | inr l ↦ ap (leb t) (m .left v l h) ∙ level-set r t (level-to r t) (level-is r t) t (omega arith) v h
+]
 
 -- what the round counts for the card u
 pub mid-partners : (r : Rules) (t u : ℕ) (xs : List ℕ) (cards ends stayed : ℕ) → MidRound r t u xs cards ends stayed → (v : ℕ)
@@ -61,8 +65,9 @@ mid-partners r t u xs cards ends stayed m v = partners-same (r .graph) _ _ v (mi
 still : (r : Rules) (t u : ℕ) (xs : List ℕ) (cards ends stayed : ℕ) → MidRound r t u xs cards ends stayed → u < r .graph .cards → peel r (suc t) u ≡ false
     → (v : ℕ) → v < suc u → v < r .graph .cards → rows xs v ≡ level-to r (suc t) v
 still r t u xs cards ends stayed m l out v h k = elim (cases-eq v u) [
-    inl e ↦ subst (λ (x : ℕ). rows xs x ≡ level-to r (suc t) x) (sym e) (m .left u (omega arith) l ∙ sym (cond-false _ _ _ out))
-  | inr n ↦ m .done v (omega arith) k ]
+  | inl e ↦ subst (λ (x : ℕ). rows xs x ≡ level-to r (suc t) x) (sym e) (m .left u (omega arith) l ∙ sym (cond-false _ _ _ out))
+  | inr n ↦ m .done v (omega arith) k
+]
 
 -- u is not in the set t
 pub mid-pass : (r : Rules) (t u : ℕ) (xs : List ℕ) (cards ends stayed : ℕ) → MidRound r t u xs cards ends stayed → u < r .graph .cards
@@ -76,7 +81,8 @@ mid-pass r t u xs cards ends stayed m l low =
       left = λ v h k. m .left v (omega arith) k;
       cards-are = omega (arith, m .cards-are, more-cards (peel r t) u false out);
       ends-are = omega (arith, m .ends-are, more-ends (r .graph) (peel r t) u false out);
-      stayed-are = omega (arith, m .stayed-are, more-cards (peel r (suc t)) u false next) }
+      stayed-are = omega (arith, m .stayed-are, more-cards (peel r (suc t)) u false next);
+    }
 
 -- u is in the set t, and its d partners there are below the line
 pub mid-drop : (r : Rules) (t u d : ℕ) (xs : List ℕ) (cards ends stayed : ℕ) → MidRound r t u xs cards ends stayed → u < r .graph .cards
@@ -92,7 +98,8 @@ mid-drop r t u d xs cards ends stayed m l high e b =
       left = λ v h k. m .left v (omega arith) k;
       cards-are = omega (arith, m .cards-are, more-cards (peel r t) u true inn);
       ends-are = omega (arith, m .ends-are, more-ends (r .graph) (peel r t) u true inn, f);
-      stayed-are = omega (arith, m .stayed-are, more-cards (peel r (suc t)) u false next) }
+      stayed-are = omega (arith, m .stayed-are, more-cards (peel r (suc t)) u false next);
+    }
 
 -- u is in the set t, and stays
 pub mid-stay : (r : Rules) (t u d : ℕ) (xs : List ℕ) (cards ends stayed : ℕ) → MidRound r t u xs cards ends stayed → u < r .graph .cards → u < 1024
@@ -106,13 +113,15 @@ mid-stay r t u d xs cards ends stayed m l few high e b =
     record {
       long = length-set xs u (t + 1) ∙ m .long;
       done = λ v h k. elim (cases-eq v u) [
-          inl z ↦ subst (λ (x : ℕ). rows (set xs u (t + 1)) x ≡ level-to r (suc t) x) (sym z)
-              (getD-set-same xs u (t + 1) 0 within ∙ (let s : t + 1 ≡ suc t = omega arith in s) ∙ sym (cond-true _ _ _ next))
-        | inr n ↦ getD-set-other xs u v (t + 1) 0 n ∙ m .done v (omega arith) k ];
+        | inl z ↦ subst (λ (x : ℕ). rows (set xs u (t + 1)) x ≡ level-to r (suc t) x) (sym z)
+            (getD-set-same xs u (t + 1) 0 within ∙ (let s : t + 1 ≡ suc t = omega arith in s) ∙ sym (cond-true _ _ _ next))
+        | inr n ↦ getD-set-other xs u v (t + 1) 0 n ∙ m .done v (omega arith) k
+      ];
       left = λ v h k. getD-set-other xs u v (t + 1) 0 (λ z. omega arith) ∙ m .left v (omega arith) k;
       cards-are = omega (arith, m .cards-are, more-cards (peel r t) u true inn);
       ends-are = omega (arith, m .ends-are, more-ends (r .graph) (peel r t) u true inn, f);
-      stayed-are = omega (arith, m .stayed-are, more-cards (peel r (suc t)) u true next) }
+      stayed-are = omega (arith, m .stayed-are, more-cards (peel r (suc t)) u true next);
+    }
 
 -- the counts are small
 pub mid-cards : (r : Rules) (t u : ℕ) (xs : List ℕ) (cards ends stayed : ℕ) → MidRound r t u xs cards ends stayed → (cards ≤ u) × (stayed ≤ u)
@@ -127,7 +136,8 @@ mid-levels r t u xs cards ends stayed m h = levels-same r (suc t) (rows xs) (lev
 
 pub mid-counts : (r : Rules) (t u : ℕ) (xs : List ℕ) (cards ends stayed : ℕ) → Lawful (r .graph) → MidRound r t u xs cards ends stayed → u ≡ r .graph .cards
     → (cards ≡ peel-cards r t) × (ends ≡ 2 * peel-links r t) × (stayed ≡ peel-cards r (suc t))
-mid-counts r t u xs cards ends stayed w m e =
-    (m .cards-are ∙ ap (sum-to (λ v. one (peel r t v))) e,
-     m .ends-are ∙ ap (ends-below (r .graph) (peel r t)) e ∙ handshake (r .graph) (peel r t) w,
-     m .stayed-are ∙ ap (sum-to (λ v. one (peel r (suc t) v))) e)
+mid-counts r t u xs cards ends stayed w m e = (
+  m .cards-are ∙ ap (sum-to (λ v. one (peel r t v))) e,
+  m .ends-are ∙ ap (ends-below (r .graph) (peel r t)) e ∙ handshake (r .graph) (peel r t) w,
+  m .stayed-are ∙ ap (sum-to (λ v. one (peel r (suc t) v))) e,
+)

@@ -31,9 +31,10 @@ pub record Searching (g : Graph) (p q k : ℕ) (S K : Cards) (l : Line) (peels :
 
 pub searching-start : (g : Graph) (p q k : ℕ) (S : Cards) (l : Line) → l ≡ line-of g S → Searching g p q k S S l 0
 searching-start g p q k S l e = record {
-    goes = λ o s. subst (λ (n : ℕ). Search g p q k S (record { kept = o .kept; line = o .line; levels = o .levels; peels = n })) (sym (zero-add (o .peels))) s;
-    line = e;
-    few = omega arith }
+  goes = λ o s. subst (λ (n : ℕ). Search g p q k S (record { kept = o .kept; line = o .line; levels = o .levels; peels = n })) (sym (zero-add (o .peels))) s;
+  line = e;
+  few = omega arith;
+}
 
 -- what the peel against the line l left
 pub record OnePeel (r : Rules) (L : Table) (t cards links : ℕ) : Type 0 where
@@ -54,7 +55,7 @@ searching-ends g p q k S K l L t cards links peels m one sh =
     let short : reaches-at (rules g p q l k) t ≡ false = sym (λ i. reaches p q l (one .links-are i) (one .cards-are i)) ∙ sh in
     subst (λ (x : Line). Search g p q k S (record { kept = K; line = x; levels = L; peels = peels + 1 })) (sym (m .line))
     (m .goes (record { kept = K; line = line-of g K; levels = L; peels = 1 })
-      (ends t (subst (λ (r : Rules). Best r t) e (one .best)) (subst (λ (r : Rules). reaches-at r t ≡ false) e short) (subst (λ (r : Rules). PeelLevels r L) e (one .levels))))
+    (ends t (subst (λ (r : Rules). Best r t) e (one .best)) (subst (λ (r : Rules). reaches-at r t ≡ false) e short) (subst (λ (r : Rules). PeelLevels r L) e (one .levels))))
 
 -- the best set B, which reaches the line, outranks K
 pub searching-grows : (g : Graph) (p q k : ℕ) (S K B : Cards) (l : Line) (L : Table) (t cards links peels : ℕ) → Lawful g → 1 ≤ p → Searching g p q k S K l peels
@@ -64,7 +65,7 @@ searching-grows g p q k S K B l L t cards links peels w ps m one re same =
     let r : Rules = rules g p q l k in
     let is : Same g B (peel r t) = λ v h. same v h ∙ level-set r k L (one .levels) t (lt-le (one .best .among)) v h in
     let hit : reaches p q (line-of g K) (links-in g (peel r t)) (size g (peel r t)) ≡ true
-          = sym (λ i. reaches p q (m .line i) (one .links-are i) (one .cards-are i)) ∙ re in
+    = sym (λ i. reaches p q (m .line i) (one .links-are i) (one .cards-are i)) ∙ re in
     subst (λ (x : ℕ). rank g K < x) (sym (rank-same g B (peel r t) is)) (rank-grows g p q w ps K (peel r t) (one .best .some) hit)
   where
     lt-le : {a b : ℕ} → a < b → a ≤ b
@@ -80,13 +81,14 @@ searching-again g p q k S K B l l′ L t cards links peels w ps m one re same le
     let hit : reaches-at r t ≡ true = sym (λ i. reaches p q l (one .links-are i) (one .cards-are i)) ∙ re in
     record {
       goes = λ o s.
-        let step : Search g p q k S (after peels (record { kept = o .kept; line = o .line; levels = o .levels; peels = suc (o .peels) }))
-              = m .goes _ (again t (subst (λ (x : Rules). Best x t) e (one .best)) (subst (λ (x : Rules). reaches-at x t ≡ true) e hit)
-                  (subst (λ (x : Rules). Same g B (peel x t)) e is) s) in
-        let n : peels + suc (o .peels) ≡ peels + 1 + o .peels = omega arith in
-        subst (λ (x : ℕ). Search g p q k S (record { kept = o .kept; line = o .line; levels = o .levels; peels = x })) n step;
+          let step : Search g p q k S (after peels (record { kept = o .kept; line = o .line; levels = o .levels; peels = suc (o .peels) }))
+          = m .goes _ (again t (subst (λ (x : Rules). Best x t) e (one .best)) (subst (λ (x : Rules). reaches-at x t ≡ true) e hit)
+          (subst (λ (x : Rules). Same g B (peel x t)) e is) s) in
+          let n : peels + suc (o .peels) ≡ peels + 1 + o .peels = omega arith in
+          subst (λ (x : ℕ). Search g p q k S (record { kept = o .kept; line = o .line; levels = o .levels; peels = x })) n step;
       line = le ∙ (λ i. record { links = (one .links-are ∙ sym (links-same g B (peel r t) is)) i; cards = (one .cards-are ∙ sym (size-same g B (peel r t) is)) i });
-      few = omega (arith, m .few, searching-grows g p q k S K B l L t cards links peels w ps m one re same) }
+      few = omega (arith, m .few, searching-grows g p q k S K B l L t cards links peels w ps m one re same);
+    }
   where
     lt-le : {a b : ℕ} → a < b → a ≤ b
     lt-le h = omega arith

@@ -34,16 +34,30 @@ fn write_cards(marks: &[bool; 1024], n: u16, list: &mut [u16])
 
 // The group that the search leaves: its cards in ascending order at the start of the list, later
 // places untouched, and its counts. Refuses where the list is too short, and then changes nothing.
-pub fn search<B: ReadingBook>(book: &B, tolerance: Tolerance, list: &mut [u16]) -> Result<Group, Refusal>
+pub fn search<B: ReadingBook>(
+    book: &B,
+    tolerance: Tolerance,
+    list: &mut [u16],
+) -> Result<Group, Refusal>
     ensures answer { λ r. ⌜ Answered (B·ReadingBook .book (now (book .entry)) .graph) (tolerance .p) (tolerance .q) (now (list .entry)) r (now (list .exit)) ⌝ }
     ensures bound { λ r. ⌜ made r (λ f. NoneDenser (B·ReadingBook .book (now (book .entry)) .graph) (tolerance .p) (tolerance .q) (f .links) (f .cards)) ⌝ }
     ensures some { λ r. ⌜ made r (λ f. 0 < f .cards) ⌝ }
 {
     let n = book.cards();
-    let Searched { kept, line, levels: _, height: _, peels } = search_from(book, tolerance, [true; 1024]);
+    let Searched {
+        kept,
+        line,
+        levels: _,
+        height: _,
+        peels,
+    } = search_from(book, tolerance, [true; 1024]);
     if list.len() < line.cards as usize {
         return Err(Refusal::ListTooShort);
     }
     write_cards(&kept, n, list);
-    Ok(Group { cards: line.cards, links: line.links, peels })
+    Ok(Group {
+        cards: line.cards,
+        links: line.links,
+        peels,
+    })
 }

@@ -49,10 +49,18 @@ pub(crate) fn peel_book<B: ReadingBook>(book: &B, setting: Setting) -> Peel
     ensures links { λ r. ⌜ r .best .links ≡ peel-links (rules-of (B·ReadingBook .book (now (book .entry)) .graph) setting) (r .best .level) ⌝ }
 {
     let mut levels = zeros();
-    let mut best = BestSet { level: 0, cards: book.cards(), links: book.links() };
+    let mut best = BestSet {
+        level: 0,
+        cards: book.cards(),
+        links: book.links(),
+    };
     for t in 0..setting.height {
         let tally = round(book, setting, t, &mut levels);
-        best = best.or_denser(BestSet { level: t, cards: tally.cards, links: tally.ends / 2 });
+        best = best.or_denser(BestSet {
+            level: t,
+            cards: tally.cards,
+            links: tally.ends / 2,
+        });
         if tally.stayed == 0 {
             return Peel { levels, best };
         }

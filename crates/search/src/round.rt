@@ -21,7 +21,12 @@ pub(crate) struct Tally {
 // Raises to t + 1 each card at level t whose partners at level t or higher are not below the line.
 // A raised card is still at level t or higher, so the counts of the round do not change under way.
 // Walks once over the partners of each card of the set.
-pub(crate) fn round<B: ReadingBook>(book: &B, setting: Setting, t: u16, levels: &mut [u16; 1024]) -> Tally
+pub(crate) fn round<B: ReadingBook>(
+    book: &B,
+    setting: Setting,
+    t: u16,
+    levels: &mut [u16; 1024],
+) -> Tally
     requires few { ⌜ t < 1024 ⌝ }
     requires before { ⌜ LevelsUpTo (rules-of (B·ReadingBook .book (now book) .graph) setting) t (rows (now levels)) ⌝ }
     ensures after { λ r. ⌜ LevelsUpTo (rules-of (B·ReadingBook .book (now (book .entry)) .graph) setting) (suc t) (rows (now (levels .exit))) ⌝ }
@@ -44,5 +49,9 @@ pub(crate) fn round<B: ReadingBook>(book: &B, setting: Setting, t: u16, levels: 
             }
         }
     }
-    Tally { cards, ends, stayed }
+    Tally {
+        cards,
+        ends,
+        stayed,
+    }
 }

@@ -34,7 +34,10 @@ fn line_of<B: ReadingBook>(book: &B, set: &[bool; 1024]) -> Line
             ends += partners_in(book, &Marked { marks: set }, u) as u32;
         }
     }
-    Line { links: ends / 2, cards }
+    Line {
+        links: ends / 2,
+        cards,
+    }
 }
 
 // The set of the cards at a level or higher.
@@ -60,12 +63,28 @@ pub fn search_from<B: ReadingBook>(book: &B, tolerance: Tolerance, start: [bool;
     let mut line = line_of(book, &group);
     let mut peels: u32 = 0;
     'search: loop {
-        let Peel { levels, best } = peel_book(book, Setting { tolerance, line, height });
+        let Peel { levels, best } = peel_book(
+            book,
+            Setting {
+                tolerance,
+                line,
+                height,
+            },
+        );
         peels += 1;
         if !line.reached_by(tolerance, best.links, best.cards) {
-            break 'search Searched { kept: group, line, levels, height, peels };
+            break 'search Searched {
+                kept: group,
+                line,
+                levels,
+                height,
+                peels,
+            };
         }
         group = marks_at(&levels, best.level);
-        line = Line { links: best.links, cards: best.cards };
+        line = Line {
+            links: best.links,
+            cards: best.cards,
+        };
     }
 }

@@ -25,7 +25,11 @@ pub(crate) impl CardSet for Marked<'_> as MarkedSet {
 
     fn has(&self, card: u16) -> bool {
         let at = card as usize;
-        if at < self.marks.len() { self.marks[at] } else { false }
+        if at < self.marks.len() {
+            self.marks[at]
+        } else {
+            false
+        }
     }
 }
 
@@ -41,6 +45,10 @@ pub(crate) impl CardSet for AtLeast<'_> as AtLeastSet {
 
     fn has(&self, card: u16) -> bool {
         let at = card as usize;
-        if at < self.levels.len() { self.levels[at] >= self.level } else { self.level == 0 }
+        if at < self.levels.len() {
+            self.levels[at] >= self.level
+        } else {
+            self.level == 0
+        }
     }
 }

@@ -13,27 +13,31 @@ next p q c d a b = (a, b)
 
 small : (x p q : ℕ) → 1 ≤ p → x * (q + p) < 1 * q → x ≤ 0
 small x p q a h = elim (cases-lt 0 x) [
-    inl l ↦ absurd (omega (arith, mul-le-mul-right {m = 1} {n = x} (q + p) l))
-  | inr l ↦ l ]
+  | inl l ↦ absurd (omega (arith, mul-le-mul-right {m = 1} {n = x} (q + p) l))
+  | inr l ↦ l
+]
 
 pub returns : need.returns
-returns c = record { count = refl; cases = record {
-  height-ten = falls (omega arith) (next 1 2 10 6 (omega arith) (λ x h. omega arith))
-      (falls (omega arith) (next 1 2 6 3 (omega arith) (λ x h. omega arith))
-      (falls (omega arith) (next 1 2 3 1 (omega arith) (λ x h. omega arith))
-      (falls (omega arith) (next 1 2 1 0 (omega arith) (λ x h. omega arith)) stands)));
-  height-four = falls (omega arith) (next 1 1 4 1 (omega arith) (λ x h. omega arith))
-      (falls (omega arith) (next 1 1 1 0 (omega arith) (λ x h. omega arith)) stands);
-  height-one = λ p q a b. falls (omega arith) (next p q 1 0 (omega arith) (λ x h. small x p q a h)) stands;
-  finest = refl;
-  coarsest = refl;
-  no-share = refl;
-  over-one = refl;
-  too-fine = refl;
-  not-below = refl;
-  is-below = refl;
-  half-below = refl;
-  half-not-below = refl;
-  clique-reaches = refl;
-  spread-falls-short = refl;
-} }
+returns c = record {
+  count = refl;
+  cases = record {
+    height-ten = falls (omega arith) (next 1 2 10 6 (omega arith) (λ x h. omega arith))
+        (falls (omega arith) (next 1 2 6 3 (omega arith) (λ x h. omega arith))
+        (falls (omega arith) (next 1 2 3 1 (omega arith) (λ x h. omega arith))
+        (falls (omega arith) (next 1 2 1 0 (omega arith) (λ x h. omega arith)) stands)));
+    height-four = falls (omega arith) (next 1 1 4 1 (omega arith) (λ x h. omega arith))
+        (falls (omega arith) (next 1 1 1 0 (omega arith) (λ x h. omega arith)) stands);
+    height-one = λ p q a b. falls (omega arith) (next p q 1 0 (omega arith) (λ x h. small x p q a h)) stands;
+    finest = refl;
+    coarsest = refl;
+    no-share = refl;
+    over-one = refl;
+    too-fine = refl;
+    not-below = refl;
+    is-below = refl;
+    half-below = refl;
+    half-not-below = refl;
+    clique-reaches = refl;
+    spread-falls-short = refl;
+  };
+}

@@ -25,13 +25,14 @@ pub loop-v-again : need.loop-v-again
 loop-v-again c =
     let X = marked (c .args .marks .now) in
     elim (c .if-marks-v .came) [
-      then-marks-v w ↦ (
-        let l : c .loop-v .at < length (c .args .list .now) = omega (arith, c .loop-v .inv .0, count-below X (c .loop-v .v) (c .args .n) (c .loop-v-test .taken) (w .if-marks-v .taken), c .pre .room) in
-        let i = written-in X (c .loop-v .v) (c .loop-v .at) (c .args .list .now) (c .loop-v .list) (w .if-marks-v .taken) l (c .loop-v .inv) in
-        (w .at-is ∙ i .0, w .list-is ∙ i .1 ∙ ap (λ (k : ℕ). listed X (c .loop-v .v + 1) ++ drop k (c .args .list .now)) (sym (w .at-is))))
-    | else-marks-v w ↦ (
-        let i = written-out X (c .loop-v .v) (c .loop-v .at) (c .args .list .now) (c .loop-v .list) (w .if-marks-v .left) (c .loop-v .inv) in
-        (w .at-is ∙ i .0, w .list-is ∙ i .1 ∙ ap (λ (k : ℕ). listed X (c .loop-v .v + 1) ++ drop k (c .args .list .now)) (sym (w .at-is)))) ]
+      | then-marks-v w ↦ (
+          let l : c .loop-v .at < length (c .args .list .now) = omega (arith, c .loop-v .inv .0, count-below X (c .loop-v .v) (c .args .n) (c .loop-v-test .taken) (w .if-marks-v .taken), c .pre .room) in
+          let i = written-in X (c .loop-v .v) (c .loop-v .at) (c .args .list .now) (c .loop-v .list) (w .if-marks-v .taken) l (c .loop-v .inv) in
+          (w .at-is ∙ i .0, w .list-is ∙ i .1 ∙ ap (λ (k : ℕ). listed X (c .loop-v .v + 1) ++ drop k (c .args .list .now)) (sym (w .at-is))))
+      | else-marks-v w ↦ (
+          let i = written-out X (c .loop-v .v) (c .loop-v .at) (c .args .list .now) (c .loop-v .list) (w .if-marks-v .left) (c .loop-v .inv) in
+          (w .at-is ∙ i .0, w .list-is ∙ i .1 ∙ ap (λ (k : ℕ). listed X (c .loop-v .v + 1) ++ drop k (c .args .list .now)) (sym (w .at-is))))
+    ]
 
 pub returns : need.returns
 returns c =

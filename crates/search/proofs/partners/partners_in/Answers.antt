@@ -26,14 +26,17 @@ loop-v-again g c =
     let X = g .S·CardSet .members (c .args .set .now) in
     let n = next-some (b .graph) (c .args .u) (c .loop-v .from) (c .in-Some .v) (c .in-Some .ensures tt) in
     elim (c .if-has .came) [
-      then-has w ↦ (
+      | then-has w ↦ (
         omega (arith, w .found-is, c .loop-v .inv .0, walk-in (b .graph) X (c .args .u) (c .loop-v .from) (c .in-Some .v) (c .in-Some .ensures tt) (sym (w .if-has .ensures tt))),
         omega (arith, n .card),
-        omega (arith, w .found-is, n .above, c .loop-v .inv .2))
-    | else-has w ↦ (
+        omega (arith, w .found-is, n .above, c .loop-v .inv .2),
+      )
+      | else-has w ↦ (
         omega (arith, w .found-is, c .loop-v .inv .0, walk-out (b .graph) X (c .args .u) (c .loop-v .from) (c .in-Some .v) (c .in-Some .ensures tt) (sym (w .if-has .ensures tt))),
         omega (arith, n .card),
-        omega (arith, w .found-is, n .above, c .loop-v .inv .2)) ]
+        omega (arith, w .found-is, n .above, c .loop-v .inv .2),
+      )
+    ]
 
 pub returns : need.returns
 returns g c =

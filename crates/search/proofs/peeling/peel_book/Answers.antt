@@ -23,7 +23,7 @@ pub returns-then-tally : need.returns-then-tally
 returns-then-tally g c =
     let b : Bettered _ _ (c .or-denser-best .result) = better _ _ _ _ _ _ (c .loop-t .inv) refl (c .round-tally .ensures .cards) (half _ _ (c .round-tally .ensures .ends)) (c .or-denser-best .ensures) in
     let p = peeled-still _ _ _ _ _ (c .loop-t-test .taken) (g .B·ReadingBook .book (c .args .book .now) .most) (c .round-tally .ensures .after)
-          (sym (c .round-tally .ensures .stayed) ∙ c .if-tally .taken ∙ c .round-tally .ensures .cards) (c .lift .ensures) b in
+    (sym (c .round-tally .ensures .stayed) ∙ c .if-tally .taken ∙ c .round-tally .ensures .cards) (c .lift .ensures) b in
     record { levels = p .levels; best = p .best; cards = p .counted .cards; links = p .counted .links }
 
 pub loop-t-again : need.loop-t-again

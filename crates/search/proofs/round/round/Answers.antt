@@ -23,15 +23,16 @@ loop-u-again g c =
     let b = g .B·ReadingBook .book (c .args .book .now) in
     let l : c .loop-u .u < b .graph .cards = omega (arith, c .cards-n .ensures .is) in
     elim (c .if-levels-u .came) [
-      then-levels-u·then-not-below w ↦
-        mid-at _ _ _ _ _ _ _ _ _ _ _ (w .levels-is) (w .cards-is) (w .ends-is) (w .stayed-is)
-        (mid-stay _ _ _ _ _ _ _ _ (c .loop-u .inv) l (omega (arith, b .most)) (w .if-levels-u .taken) (w .partners-in-partners .ensures) (sym (w .if-not-below .ensures tt)))
-    | then-levels-u·else-not-below w ↦
-        mid-at _ _ _ _ _ _ _ _ _ _ _ (w .levels-is) (w .cards-is) (w .ends-is) (w .stayed-is)
-        (mid-drop _ _ _ _ _ _ _ _ (c .loop-u .inv) l (w .if-levels-u .taken) (w .partners-in-partners .ensures) (sym (w .if-not-below .ensures tt)))
-    | else-levels-u w ↦
-        mid-at _ _ _ _ _ _ _ _ _ _ _ (w .levels-is) (w .cards-is) (w .ends-is) (w .stayed-is)
-        (mid-pass _ _ _ _ _ _ _ (c .loop-u .inv) l (w .if-levels-u .left)) ]
+      | then-levels-u·then-not-below w ↦
+          mid-at _ _ _ _ _ _ _ _ _ _ _ (w .levels-is) (w .cards-is) (w .ends-is) (w .stayed-is)
+          (mid-stay _ _ _ _ _ _ _ _ (c .loop-u .inv) l (omega (arith, b .most)) (w .if-levels-u .taken) (w .partners-in-partners .ensures) (sym (w .if-not-below .ensures tt)))
+      | then-levels-u·else-not-below w ↦
+          mid-at _ _ _ _ _ _ _ _ _ _ _ (w .levels-is) (w .cards-is) (w .ends-is) (w .stayed-is)
+          (mid-drop _ _ _ _ _ _ _ _ (c .loop-u .inv) l (w .if-levels-u .taken) (w .partners-in-partners .ensures) (sym (w .if-not-below .ensures tt)))
+      | else-levels-u w ↦
+          mid-at _ _ _ _ _ _ _ _ _ _ _ (w .levels-is) (w .cards-is) (w .ends-is) (w .stayed-is)
+          (mid-pass _ _ _ _ _ _ _ (c .loop-u .inv) l (w .if-levels-u .left))
+    ]
 
 pub returns : need.returns
 returns g c =

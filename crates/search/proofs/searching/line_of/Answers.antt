@@ -20,12 +20,13 @@ loop-u-again g c =
     let h = g .B·ReadingBook .book (c .args .book .now) .graph in
     let X = marked (c .args .set .now) in
     elim (c .if-set-u .came) [
-      then-set-u w ↦ (
-        let i = set-in h X (c .loop-u .u) (c .loop-u .cards) (c .loop-u .ends) (w .partners-in .result) (w .if-set-u .taken) (w .partners-in .ensures) (c .loop-u .inv .0) (c .loop-u .inv .1) in
-        (w .cards-is ∙ i .0, w .ends-is ∙ i .1))
-    | else-set-u w ↦ (
-        let i = set-out h X (c .loop-u .u) (c .loop-u .cards) (c .loop-u .ends) (w .if-set-u .left) (c .loop-u .inv .0) (c .loop-u .inv .1) in
-        (w .cards-is ∙ i .0, w .ends-is ∙ i .1)) ]
+      | then-set-u w ↦ (
+          let i = set-in h X (c .loop-u .u) (c .loop-u .cards) (c .loop-u .ends) (w .partners-in .result) (w .if-set-u .taken) (w .partners-in .ensures) (c .loop-u .inv .0) (c .loop-u .inv .1) in
+          (w .cards-is ∙ i .0, w .ends-is ∙ i .1))
+      | else-set-u w ↦ (
+          let i = set-out h X (c .loop-u .u) (c .loop-u .cards) (c .loop-u .ends) (w .if-set-u .left) (c .loop-u .inv .0) (c .loop-u .inv .1) in
+          (w .cards-is ∙ i .0, w .ends-is ∙ i .1))
+    ]
 
 pub returns : need.returns
 returns g c =

@@ -44,8 +44,8 @@ search-less g c =
     let e = c .peel-book .ensures in
     falls _ _ _
     (searching-grows (b .graph) _ _ _ _ _ (marked (c .marks-at-group .result)) _ (rows (c .peel-book .result .levels)) (c .peel-book .result .best .level) _ _ _ (b .lawful) (c .args .tolerance .least) (c .search .inv)
-      (record { levels = e .levels; best = e .best; cards-are = e .cards; links-are = e .links })
-      (sym (c .if-not-reached-by .ensures tt)) (λ v h. c .marks-at-group .ensures v (omega (arith, b .most))))
+    (record { levels = e .levels; best = e .best; cards-are = e .cards; links-are = e .links })
+    (sym (c .if-not-reached-by .ensures tt)) (λ v h. c .marks-at-group .ensures v (omega (arith, b .most))))
     (rank-le (b .graph) (b .lawful) (marked (c .marks-at-group .result)))
 
 pub search-again : need.search-again
@@ -62,5 +62,5 @@ returns g c =
     let e = c .peel-book .ensures in
     let high : Height (c .args .tolerance .p) (c .args .tolerance .q) (b .graph .cards) (c .height-height .result) = at-cards _ _ _ _ _ (c .cards .ensures .is) (c .height-height .ensures .is) in
     let s = searching-ends (b .graph) _ _ _ _ _ _ (rows (c .peel-book .result .levels)) (c .peel-book .result .best .level) _ _ _ (c .search .inv)
-          (record { levels = e .levels; best = e .best; cards-are = e .cards; links-are = e .links }) (sym (c .if-not-reached-by .ensures tt)) in
+    (record { levels = e .levels; best = e .best; cards-are = e .cards; links-are = e .links }) (sym (c .if-not-reached-by .ensures tt)) in
     record { outcome = s; height = high; sound = search-sound (b .lawful) (omega (arith, c .args .tolerance .least, c .args .tolerance .order)) high s }

@@ -27,12 +27,13 @@ loop-left-less c =
 
 pub loop-left-again : need.loop-left-again
 loop-left-again c =
-    let nx = next-is (c .args .self .p) (c .args .self .q) (c .loop-left .left) (c .args .self .least) (c .args .self .order) (c .loop-left-test .taken) in
-    (λ k h.
-      let e : c .loop-left .turns + suc k ≡ c .loop-left .turns + 1 + k = omega arith in
-      subst (λ (j : ℕ). Height (c .args .self .p) (c .args .self .q) (c .args .cards) j) e
-      (c .loop-left .inv .0 (suc k) (falls (c .loop-left-test .taken) nx h)),
-    omega (arith, c .loop-left .inv .1, next-less (c .args .self .p) (c .args .self .q) (c .loop-left .left) _ nx))
+    let nx = next-is (c .args .self .p) (c .args .self .q) (c .loop-left .left) (c .args .self .least) (c .args .self .order) (c .loop-left-test .taken) in (
+      λ k h.
+          let e : c .loop-left .turns + suc k ≡ c .loop-left .turns + 1 + k = omega arith in
+          subst (λ (j : ℕ). Height (c .args .self .p) (c .args .self .q) (c .args .cards) j) e
+          (c .loop-left .inv .0 (suc k) (falls (c .loop-left-test .taken) nx h)),
+      omega (arith, c .loop-left .inv .1, next-less (c .args .self .p) (c .args .self .q) (c .loop-left .left) _ nx),
+    )
 
 -- where nothing is left, the turns are the height
 done : (p q cards turns left : ℕ) → left ≤ 0 → ((k : ℕ) → Height p q left k → Height p q cards (turns + k)) → Height p q cards turns
@@ -43,5 +44,5 @@ done p q cards turns left z f =
 pub returns : need.returns
 returns c =
     let is : Height (c .args .self .p) (c .args .self .q) (c .args .cards) (c .loop-left .turns) =
-          done (c .args .self .p) (c .args .self .q) (c .args .cards) (c .loop-left .turns) (c .loop-left .left) (omega (arith, c .loop-left-test .left)) (c .loop-left .inv .0) in
+    done (c .args .self .p) (c .args .self .q) (c .args .cards) (c .loop-left .turns) (c .loop-left .left) (omega (arith, c .loop-left-test .left)) (c .loop-left .inv .0) in
     record { is = is; only = λ k h. height-one h is; most = omega (arith, c .loop-left .inv .1) }
