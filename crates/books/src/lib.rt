@@ -5,4 +5,7 @@ mod writing;
 
 pub use reading::ReadingBook;
 pub use refusal::Refusal;
+pub use refusal::RefusalDebug;
+pub use refusal::RefusalEq;
+pub use refusal::RefusalPartialEq;
 pub use writing::WritingBook;
