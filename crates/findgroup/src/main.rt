@@ -21,9 +21,13 @@ mod trouble;
 
 ghost use mathlib.Core.Path.{_≡_};
 ghost use lib.ListN.{length};
-ghost use Rattle.std.specs.Results.{errPart};
+ghost use Rattle.std.specs.Results.{errPart, isOk};
 ghost use Rattle.std.specs.Vec.{made};
 ghost use Rattle.books.specs.Books.{Book};
+ghost use mathlib.Core.Bool.{false};
+ghost use Rattle.std.specs.declared.result.Result.the-variants.{Err};
+ghost use Rattle.link_text.specs.declared.fault.Fault.{Fault as BadText};
+ghost use Rattle.link_text.specs.Lines.{link-in};
 ghost use Rattle.findgroup.specs.Steps.{setup-refusal, after-line};
 use bit_book::BitBook;
 use bit_book::BitBookReads;
@@ -138,6 +142,7 @@ fn put_line<B: WritingBook>(
 ) -> Result<(), Trouble>
     ensures links { λ _. ⌜ B·ReadingBook .book (now (book .exit)) .graph ≡ after-line (B·ReadingBook .book (now (book .entry)) .graph) (B·WritingBook .room (now (book .entry))) (now (line .entry)) ⌝ }
     ensures places { λ _. ⌜ B·WritingBook .room (now (book .exit)) ≡ B·WritingBook .room (now (book .entry)) ⌝ }
+    ensures bad { λ r. ⌜ ((f : BadText) → link-in (now (line .entry)) ≡ Err f → isOk r ≡ false) ⌝ }
 {
     let (u, v) = match read_link(line) {
         Ok(link) => link,

@@ -17,6 +17,7 @@ pub record Rules : Type 0 where
   pub line : Line
   pub height : ℕ
 
+-- these five, put together
 abbrev pub rules : Graph → ℕ → ℕ → Line → ℕ → Rules
 rules g p q l k = record { graph = g; p = p; q = q; line = l; height = k }
 

@@ -11,10 +11,11 @@ abbrev pub peel : Rules → ℕ → Cards
 peel r zero v = everyone (r .graph) v
 peel r (suc t) v = peel r t v && not (below (r .p) (r .q) (r .line) (partners-in (r .graph) (peel r t) v))
 
--- the cards and the links of the set t of the peel
+-- how many cards the set t of the peel has
 abbrev pub peel-cards : Rules → ℕ → ℕ
 peel-cards r t = size (r .graph) (peel r t)
 
+-- how many links have both ends in the set t of the peel
 abbrev pub peel-links : Rules → ℕ → ℕ
 peel-links r t = links-in (r .graph) (peel r t)
 

@@ -17,6 +17,9 @@ use Rattle.peel.proofs.Lines.{size-same, links-same}
 use Rattle.peel.proofs.Peels.{level-set}
 use Rattle.peel.proofs.Searches.{rank, rank-le, rank-grows, rank-same}
 
+lt-le : {a b : ℕ} → a < b → a ≤ b
+lt-le h = omega arith
+
 -- the outcome, with more peels before it
 abbrev pub after : ℕ → Outcome → Outcome
 after n o = record { kept = o .kept; line = o .line; levels = o .levels; peels = n + o .peels }
@@ -67,9 +70,6 @@ searching-grows g p q k S K B l L t cards links peels w ps m one re same =
     let hit : reaches p q (line-of g K) (links-in g (peel r t)) (size g (peel r t)) ≡ true
     = sym (λ i. reaches p q (m .line i) (one .links-are i) (one .cards-are i)) ∙ re in
     subst (λ (x : ℕ). rank g K < x) (sym (rank-same g B (peel r t) is)) (rank-grows g p q w ps K (peel r t) (one .best .some) hit)
-  where
-    lt-le : {a b : ℕ} → a < b → a ≤ b
-    lt-le h = omega arith
 
 pub searching-again : (g : Graph) (p q k : ℕ) (S K B : Cards) (l l′ : Line) (L : Table) (t cards links peels : ℕ) → Lawful g → 1 ≤ p → Searching g p q k S K l peels
     → OnePeel (rules g p q l k) L t cards links → reaches p q l links cards ≡ true → Same g B (at-least L t) → l′ ≡ record { links = links; cards = cards }
@@ -89,6 +89,3 @@ searching-again g p q k S K B l l′ L t cards links peels w ps m one re same le
       line = le ∙ (λ i. record { links = (one .links-are ∙ sym (links-same g B (peel r t) is)) i; cards = (one .cards-are ∙ sym (size-same g B (peel r t) is)) i });
       few = omega (arith, m .few, searching-grows g p q k S K B l L t cards links peels w ps m one re same);
     }
-  where
-    lt-le : {a b : ℕ} → a < b → a ≤ b
-    lt-le h = omega arith
