@@ -52,7 +52,7 @@ fn marks_at(levels: &[u16; 1024], level: u16) -> [bool; 1024]
 }
 
 // The search from any set of cards, marked by their numbers. Each peel but the last makes the kept
-// set denser, so there are fewer peels than the cube of the number of cards.
+// set denser, so there is at most one peel more than the cube of the number of cards.
 pub fn search_from<B: ReadingBook>(book: &B, tolerance: Tolerance, start: [bool; 1024]) -> Searched
     ensures outcome { λ r. ⌜ Search (B·ReadingBook .book (now (book .entry)) .graph) (tolerance .p) (tolerance .q) (r .height) (marked start) (outcome r) ⌝ }
     ensures height { λ r. ⌜ Height (tolerance .p) (tolerance .q) (B·ReadingBook .book (now (book .entry)) .graph .cards) (r .height) ⌝ }
