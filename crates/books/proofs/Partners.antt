@@ -1,14 +1,14 @@
 -- What an answer of the next-partner question says, and walks from partner to partner.
 use mathlib.Core.Path.{_≡_, refl, sym, ap, subst, _∙_}
 use mathlib.Core.Bool.{Bool, true, false, not, cond}
-use mathlib.Core.Logic.{_⊎_, ⊎-elim}
+use mathlib.Core.Logic.{_⊎_, inl, inr, ⊎-elim}
 use Prim.Native.Nat.{ℕ, zero, suc, _+_, _-_, _≤_, _<_}
 use native.Mathlib.Omega.{arith}
 use Rattle.std.specs.declared.option.Option.{Option}
 use Rattle.std.specs.declared.option.Option.the-variants.{Some, None}
 use Rattle.std.proofs.shelf.Tests.{cases-eq, cases-bool, cond-true, cond-false, both-ways}
 use Rattle.books.specs.Graphs.{Graph, Lawful}
-use Rattle.books.specs.Books.{first-from, next-partner}
+use Rattle.books.specs.Books.{first-from, next-partner, LowestPartner}
 
 pub first-step : (p : ℕ → Bool) (n w : ℕ) → w < n → first-from p (n - w) w ≡ cond (p w) (Some w) (first-from p (n - (w + 1)) (w + 1))
 first-step p n w h = let e : n - w ≡ suc (n - (w + 1)) = omega arith in rw e
@@ -18,6 +18,9 @@ first-here p n w h t = rw (first-step p n w h, t)
 
 pub first-later : (p : ℕ → Bool) (n w : ℕ) → w < n → p w ≡ false → first-from p (n - w) w ≡ first-from p (n - (w + 1)) (w + 1)
 first-later p n w h t = first-step p n w h ∙ ap (λ b. cond b (Some w) (first-from p (n - (w + 1)) (w + 1))) t
+
+pub first-past : (p : ℕ → Bool) (n w : ℕ) → n ≤ w → first-from p (n - w) w ≡ None
+first-past p n w h = let e : n - w ≡ 0 = omega arith in rw e
 
 none-some : {X : Type 0} (x : X) → None ≡ Some x → ⊥
 none-some x e = let z : _≡_ {A = ℕ} 0 1 = cc in omega arith
@@ -66,3 +69,11 @@ next-some g u w x h =
 -- no card from w on is a partner of u
 pub next-none : (g : Graph) (u w : ℕ) → None ≡ next-partner g u w → (y : ℕ) → w ≤ y → y < g .cards → g .linked u y ≡ false
 next-none g u w h y l m = first-all (g .linked u) (g .cards - w) w (sym h) y l (omega arith)
+
+-- the answer in the words of the question
+pub next-lowest : (g : Graph) → Lawful g → (u w : ℕ) (r : Option ℕ) → r ≡ next-partner g u w → LowestPartner g u w r
+next-lowest g l u w (Some x) h = let n = next-some g u w x h in (n .above, n .held, n .gap)
+next-lowest g l u w None h = λ v a. elim (cases-bool (g .linked u v)) [
+  | inr f ↦ f
+  | inl y ↦ absurd (both-ways _ (next-none g u w h v a (l .inside v u (l .even v u ∙ y))) y)
+]

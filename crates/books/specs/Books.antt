@@ -1,7 +1,7 @@
 -- What a book means, whatever memory it stands on.
 use mathlib.Core.Path.{_≡_}
 use mathlib.Core.Bool.{Bool, true, false, cond, _&&_}
-use Prim.Native.Nat.{ℕ, zero, suc, _+_, _-_, _≤_}
+use Prim.Native.Nat.{ℕ, zero, suc, _+_, _-_, _≤_, _<_}
 use lib.Dec.{leb}
 use Rattle.std.specs.declared.option.Option.{Option}
 use Rattle.std.specs.declared.option.Option.the-variants.{Some, None}
@@ -26,3 +26,8 @@ first-from p (suc k) w = cond (p w) (Some w) (first-from p k (w + 1))
 -- the lowest partner of u that is not below w
 abbrev pub next-partner : Graph → ℕ → ℕ → Option ℕ
 next-partner g u w = first-from (g .linked u) (g .cards - w) w
+
+-- the answer r is a partner of u that is not below w, with no partner between; or it is none, and u has no such partner
+abbrev pub LowestPartner : Graph → ℕ → ℕ → Option ℕ → Type 0
+LowestPartner g u w (Some x) = (w ≤ x) × (g .linked u x ≡ true) × ((v : ℕ) → w ≤ v → v < x → g .linked u v ≡ false)
+LowestPartner g u w None = (v : ℕ) → w ≤ v → g .linked u v ≡ false

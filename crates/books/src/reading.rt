@@ -3,7 +3,7 @@ ghost use mathlib.Core.Path.{_≡_};
 ghost use mathlib.Core.Bool.{Bool, true, false};
 ghost use Prim.Native.Nat.{_≤_};
 ghost use Rattle.books.specs.Graphs.{link-count};
-ghost use Rattle.books.specs.Books.{Book, next-partner};
+ghost use Rattle.books.specs.Books.{Book, next-partner, LowestPartner};
 
 pub trait ReadingBook {
     // what the book means
@@ -26,7 +26,8 @@ pub trait ReadingBook {
     // The lowest partner of u that is not below w, or none. Any numbers may be given.
     // As written here it asks `linked` of each card from w on, up to the one it answers.
     fn next_partner(&self, u: u16, w: u16) -> Option<u16>
-        ensures { λ r. ⌜ r ≡ next-partner (book (now (self .entry)) .graph) u w ⌝ }
+        ensures is { λ r. ⌜ r ≡ next-partner (book (now (self .entry)) .graph) u w ⌝ }
+        ensures lowest { λ r. ⌜ LowestPartner (book (now (self .entry)) .graph) u w r ⌝ }
     {
         let n = self.cards();
         for x in w..n {

@@ -21,14 +21,11 @@ mod trouble;
 
 ghost use mathlib.Core.Path.{_≡_};
 ghost use lib.ListN.{length};
-ghost use Rattle.std.specs.Results.{errPart, isOk};
+ghost use Rattle.std.specs.Results.{errPart};
 ghost use Rattle.std.specs.Vec.{made};
 ghost use Rattle.books.specs.Books.{Book};
-ghost use mathlib.Core.Bool.{false};
-ghost use Rattle.std.specs.declared.result.Result.the-variants.{Err};
-ghost use Rattle.link_text.specs.declared.fault.Fault.{Fault as BadText};
-ghost use Rattle.link_text.specs.Lines.{link-in};
-ghost use Rattle.findgroup.specs.Steps.{setup-refusal, after-line};
+ghost use Rattle.link_text.specs.Lines.{link-in, setup-in};
+ghost use Rattle.findgroup.specs.Steps.{setup-read, setup-refusal, after-line, Goes};
 use bit_book::BitBook;
 use bit_book::BitBookReads;
 use bit_book::BitBookWrites;
@@ -77,12 +74,18 @@ fn run(rt: &LibcRuntime) -> Result<(), Trouble> {
 
 // The setup. An input without a line reads as an empty one.
 fn first_line(lines: &mut Input) -> Result<Setup, Trouble> {
-    let read = match lines.next() {
-        None => read_setup(b""),
-        Some(Ok(line)) => read_setup(line.as_bytes()),
-        Some(Err(error)) => return Err(Trouble::Input { line: 1, error }),
-    };
-    match read {
+    match lines.next() {
+        None => setup_of(b""),
+        Some(Ok(line)) => setup_of(line.as_bytes()),
+        Some(Err(error)) => Err(Trouble::Input { line: 1, error }),
+    }
+}
+
+// The setup that the line is, or what is wrong with it.
+fn setup_of(line: &[u8]) -> Result<Setup, Trouble>
+    ensures { λ r. ⌜ r ≡ setup-read (setup-in (now (line .entry))) ⌝ }
+{
+    match read_setup(line) {
         Ok(setup) => Ok(setup),
         Err(fault) => Err(Trouble::BadSetup(fault)),
     }
@@ -142,7 +145,7 @@ fn put_line<B: WritingBook>(
 ) -> Result<(), Trouble>
     ensures links { λ _. ⌜ B·ReadingBook .book (now (book .exit)) .graph ≡ after-line (B·ReadingBook .book (now (book .entry)) .graph) (B·WritingBook .room (now (book .entry))) (now (line .entry)) ⌝ }
     ensures places { λ _. ⌜ B·WritingBook .room (now (book .exit)) ≡ B·WritingBook .room (now (book .entry)) ⌝ }
-    ensures bad { λ r. ⌜ ((f : BadText) → link-in (now (line .entry)) ≡ Err f → isOk r ≡ false) ⌝ }
+    ensures answer { λ r. ⌜ Goes number (B·ReadingBook .book (now (book .entry)) .graph) (B·WritingBook .room (now (book .entry))) (link-in (now (line .entry))) r ⌝ }
 {
     let (u, v) = match read_link(line) {
         Ok(link) => link,
