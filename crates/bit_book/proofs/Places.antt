@@ -11,7 +11,7 @@ use Rattle.std.proofs.shelf.Bits.{div-below}
 use Rattle.std.proofs.shelf.Tests.{cases-lt, cases-order, lt-ltb, le-ltb, or-from, and-left, and-right}
 use Rattle.books.specs.Graphs.{same-pair}
 use Rattle.books.proofs.Sums.{tri, tri-is, tri-le}
-use Rattle.books.proofs.Links.{Ends, or-turn, same-straight, same-crossed, same-other, same-swap, pair-cases}
+use Rattle.books.proofs.Links.{Ends, or-turn, or-none, same-straight, same-crossed, same-other, same-swap, pair-cases}
 use Rattle.bit_book.specs.Layout.{pairs, pair-bit, bit-of, needed, bit-at, cleared, turned}
 use Rattle.bit_book.specs.Meaning.{low-linked, bit-linked, bit-graph}
 use Rattle.bit_book.proofs.Bytes.{bit-cleared, turned-here, turned-others}
@@ -42,14 +42,10 @@ place-apart u v x y h k e =
 low-none : (n : ℕ) (xs : List ℕ) (a b : ℕ) → b ≤ a → low-linked n xs a b ≡ false
 low-none n xs a b h = rw (le-ltb a b h)
 
-or-none : (z : Bool) → (z || false) ≡ z
-or-none true = refl
-or-none false = refl
-
 -- a pair in its order, among the cards: the link is the bit
 pub linked-low : (n : ℕ) (xs : List ℕ) (a b : ℕ) → a < b → b < n → bit-linked n xs a b ≡ bit-at xs (pair-bit a b)
 linked-low n xs a b h k =
-    ap (λ z. low-linked n xs a b || z) (low-none n xs b a (omega arith)) ∙ or-none (low-linked n xs a b) ∙ rw (lt-ltb a b h, lt-ltb b n k)
+    or-none (low-linked n xs a b) (low-linked n xs b a) (low-none n xs b a (omega arith)) ∙ rw (lt-ltb a b h, lt-ltb b n k)
 
 pub of-low : (u v : ℕ) → u < v → bit-of u v ≡ pair-bit u v
 of-low u v h = rw (lt-ltb u v h)

@@ -22,6 +22,10 @@ or-turn true false = refl
 or-turn false true = refl
 or-turn false false = refl
 
+pub or-none : (x y : Bool) → y ≡ false → (x || y) ≡ x
+or-none true y e = refl
+or-none false y e = e
+
 pub and-turn : (a b : Bool) → (a && b) ≡ (b && a)
 and-turn true true = refl
 and-turn true false = refl

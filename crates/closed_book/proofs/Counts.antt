@@ -9,7 +9,7 @@ use Rattle.std.proofs.shelf.Tests.{le-ltb, cond-false, eq-eqb, and-from, or-rig
 use Rattle.books.specs.Sums.{pair-sum, one}
 use Rattle.books.specs.Graphs.{link-count}
 use Rattle.books.proofs.Sums.{pairs-point, pairs-none, tri-small}
-use Rattle.books.proofs.Links.{and-none, links-most}
+use Rattle.books.proofs.Links.{or-none, and-none, links-most}
 use Rattle.closed_book.specs.Lists.{pair-count, pair-at, suits}
 use Rattle.closed_book.specs.Meaning.{same, any, lower-first, closed-graph, suits-cards}
 use Rattle.closed_book.proofs.Tests.{any-none}
@@ -18,10 +18,6 @@ use Rattle.closed_book.proofs.Places.{cards-at, rises}
 
 ordered : (v u : ℕ) → u < v → lower-first v u ≡ (u, v)
 ordered v u l = let m : u ≤ v = omega arith in cond-false (ltb v u) (v, u) (u, v) (le-ltb v u m)
-
-or-none : (x y : Bool) → y ≡ false → (x || y) ≡ x
-or-none true y e = refl
-or-none false y e = e
 
 -- p stands at one of the list's first k places
 abbrev pub stands-below : List ℕ → ℕ → ℕ × ℕ → Bool
