@@ -5,6 +5,8 @@
 //
 // Making a book clears the bytes that it needs. Every other call takes the same short time in a book of
 // any size, but for `next_partner`, which reads at most one bit for each card.
+#![tactic(auto)]
+
 mod book;
 mod layout;
 

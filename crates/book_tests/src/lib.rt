@@ -1,4 +1,6 @@
 // The kinds of book on small cases, whose answers were worked out by hand.
+#![tactic(auto)]
+
 #[cfg(test)]
 mod agreement;
 #[cfg(test)]

@@ -1,8 +1,8 @@
 -- Sums over the numbers below n, and over the pairs below n.
-use Rattle.std.proofs.Common.{◌≡◌, ℕ, zero, suc, ◌+◌, ◌-◌, ◌*◌, ◌/◌, ◌<◌, ◌≤◌, Bool, true, false, ◌⊎◌, sym, refl, ap, ◌∙◌, inl, inr, zero-le, suc-mul, mul-le-mul, mul-suc, add-one, arith}
+use Rattle.std.proofs.Common.{◌≡◌, ℕ, zero, suc, ◌+◌, ◌-◌, ◌*◌, ◌/◌, ◌<◌, ◌≤◌, Bool, true, false, sym, refl, ap, inl, inr, zero-le, suc-mul, mul-suc, add-one, arith}
 use native.Mathlib.Nat.{mul-div_left}
 use Rattle.std.proofs.lemmas.Bool.{cases_eq}
-use Rattle.books.specs.Sums.{sum_to, pair_sum, one, when}
+use Rattle.books.specs.Sums.{sum_to, pair_sum, one}
 
 pub sum_more : (f : ℕ → ℕ) (n : ℕ) → sum_to f (n + 1) ≡ sum_to f n + f n
 sum_more f n = rw (add-one n)

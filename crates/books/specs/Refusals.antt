@@ -1,5 +1,5 @@
 -- The refusals: their numbers, and which of them a change of a link meets first.
-use Rattle.std.specs.Prelude.{ℕ, Bool, true, false, cond, ◌||◌, Some, None, Option, ◌==◌, nat_le}
+use Rattle.std.specs.Prelude.{ℕ, cond, ◌||◌, Some, None, Option, ◌==◌, nat_le}
 use Rattle.books.specs.declared.refusal.Refusal.{Refusal}
 use Rattle.books.specs.declared.refusal.Refusal.TheVariants.{NoSuchCard, SameCard, BadTolerance, Unsuitable, BadList, LinkHeld, LinkMissing, Full, ListTooShort}
 use Rattle.books.specs.Graphs.{Graph, link_count}

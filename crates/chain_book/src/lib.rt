@@ -8,6 +8,8 @@
 // Making a book writes each needed record once. A question about a card walks along its chain, at most to the end.
 // A put or a take walks so along the chain of the card that is named first twice, the first time to see whether the
 // link is held, and along the other's once. What is asked for in number is kept, not counted.
+#![tactic(auto)]
+
 mod book;
 mod chain;
 mod layout;

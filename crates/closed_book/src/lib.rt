@@ -1,4 +1,6 @@
 // The closed book: a book that only reads, on a list of links that someone else keeps.
+#![tactic(auto)]
+
 mod book;
 mod list;
 

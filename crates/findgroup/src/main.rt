@@ -16,6 +16,8 @@
 //
 // A line that does not read, a setup that is refused, and trouble with the input or the output end the
 // program with status 1 and a message on standard error. Nothing is guessed: no group is told of then.
+#![tactic(auto)]
+
 mod found;
 mod trouble;
 

@@ -5,6 +5,8 @@
 // no carriage return. The end of the line itself is not part of what is read here.
 //
 // Every call reads each byte of the line at most three times, and asks for no memory.
+#![tactic(auto)]
+
 mod fault;
 mod line;
 mod meaning;

@@ -1,4 +1,6 @@
 // Tolerances, heights, lines, level tables, peels and searches: what they mean, and what holds of them.
+#![tactic(auto)]
+
 mod cases;
 mod line;
 mod tolerance;

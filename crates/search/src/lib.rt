@@ -1,4 +1,6 @@
 // The search for a dense group of cards, on any book that can be read.
+#![tactic(auto)]
+
 mod best;
 mod found;
 mod group;

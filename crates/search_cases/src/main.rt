@@ -1,5 +1,7 @@
 // Searches many graphs and prints a line for each search. What it must print is in `stdout`, which
 // `reference.py` computes on its own from the rules.
+#![tactic(auto)]
+
 mod dice;
 mod shape;
 

@@ -1,5 +1,5 @@
-use Rattle.std.proofs.Common.{◌≡◌, ℕ, ◌-◌, ◌≤◌, Some, None, sym, ◌∙◌, arith}
-use Rattle.books.specs.Books.{first_from, next_partner}
+use Rattle.std.proofs.Common.{◌≡◌, Some, None, sym, ◌∙◌, arith}
+use Rattle.books.specs.Books.{next_partner}
 use Rattle.books.proofs.Partners.{first_here, first_later, first_past, next_lowest}
 use Rattle.books.proofs.reading.ReadingBook.next_partner.Goals as goal
 
