@@ -11,8 +11,8 @@ returns-then-u-parts c =
       | goal.then-u-parts-via-else-u-parts+then-parts-eq0 w ↦ inr w.if-parts-eq0.true
     ])
 
-pub partner-from-requires : goal.partner-from-requires
-partner-from-requires c =
+pub partner_from-requires : goal.partner_from-requires
+partner_from-requires c =
     let p = c.args.parts.now in
     record {
       head = ask_head p.cards p.needed p.records.now p.free p.links c.args.u c.args.w c.requires.fits c.requires.sound c.if-u-parts.false c.if-parts-eq0.false;
@@ -23,4 +23,4 @@ pub returns : goal.returns
 returns c =
     let p = c.args.parts.now in
     ask_next p.cards p.needed p.records.now p.free p.links c.args.u c.args.w c.requires.fits c.requires.sound c.if-u-parts.false c.if-parts-eq0.false
-    c.partner-from.result c.partner-from.ensures
+    c.partner_from.result c.partner_from.ensures

@@ -15,8 +15,8 @@ remove-requires-2 c =
     c.remove.new.records c.remove.new.free c.remove.ensures.records c.remove.ensures.free in
     record { head = r.head; runs = r.runs; held = r.held }
 
-pub overflow-sub-parts : goal.overflow-sub-parts
-overflow-sub-parts c =
+pub overflow_sub-parts : goal.overflow_sub-parts
+overflow_sub-parts c =
     let p = c.args.parts.now in
     take_some p.cards p.needed p.records.now p.free p.links c.args.u c.args.v c.requires.standing.fits c.requires.standing.sound c.requires.may
 

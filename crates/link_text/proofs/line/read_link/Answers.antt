@@ -5,6 +5,6 @@ use Rattle.link_text.proofs.line.read_link.Goals as goal
 
 pub returns : goal.returns
 returns c = record {
-  is = c.two-numbers.ensures;
-  written = λ u v h k e. c.two-numbers.ensures ∙ (ap link_in e ∙ link_back u v h k);
+  is = c.two_numbers.ensures;
+  written = λ u v h k e. c.two_numbers.ensures ∙ (ap link_in e ∙ link_back u v h k);
 }

@@ -5,6 +5,6 @@ use Rattle.link_text.proofs.line.read_setup.Goals as goal
 
 pub returns : goal.returns
 returns c = record {
-  is = c.three-numbers.ensures;
-  written = λ s h k l e. c.three-numbers.ensures ∙ (ap setup_in e ∙ setup_back s h k l);
+  is = c.three_numbers.ensures;
+  written = λ s h k l e. c.three_numbers.ensures ∙ (ap setup_in e ∙ setup_back s h k l);
 }

@@ -4,8 +4,8 @@ use Rattle.link_text.specs.Numbers.{value_after}
 use Rattle.link_text.proofs.Digits.{digits_parts, digit_least, value_more, value_all, value_grows}
 use Rattle.link_text.proofs.number.value_of.Goals as goal
 
-pub overflow-sub-value : goal.overflow-sub-value
-overflow-sub-value c =
+pub overflow_sub-value : goal.overflow_sub-value
+overflow_sub-value c =
     digit_least (get_or c.args.digits.now c.loop-b.b-index 0) (digits_parts c.args.digits.now c.loop-b.b-index c.loop-b-test.true c.loop-b.invariant.1).0
 
 pub returns-then-value-gt-MOST : goal.returns-then-value-gt-MOST

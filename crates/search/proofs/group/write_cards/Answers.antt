@@ -13,8 +13,8 @@ pub bounds-list-at : goal.bounds-list-at
 bounds-list-at c =
     omega (arith, c.loop-v.invariant.0, count_below (marked c.args.marks.now) c.loop-v.v c.args.n c.loop-v-test.true c.if-marks-v.true, c.requires.room, c.loop-v.auto.list)
 
-pub overflow-add-at : goal.overflow-add-at
-overflow-add-at c =
+pub overflow_add-at : goal.overflow_add-at
+overflow_add-at c =
     omega (arith, c.loop-v.invariant.0, count_below (marked c.args.marks.now) c.loop-v.v c.args.n c.loop-v-test.true c.if-marks-v.true, c.requires.room, c.loop-v.auto.list)
 
 pub loop-v-preserved : goal.loop-v-preserved

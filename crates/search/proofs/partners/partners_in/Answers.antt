@@ -4,11 +4,11 @@ use Rattle.search.proofs.Walks.{walk_in, walk_out, walk_done}
 use Rattle.search.proofs.partners.partners_in.Goals as goal
 use Rattle.search.proofs.partners.partners_in.Goals.{then-has, else-has}
 
-pub overflow-add-found : goal.overflow-add-found
-overflow-add-found g c = omega (arith, c.loop-v.invariant.1, c.loop-v.invariant.2, (g.B.ReadingBook.book c.args.book.now).most)
+pub overflow_add-found : goal.overflow_add-found
+overflow_add-found g c = omega (arith, c.loop-v.invariant.1, c.loop-v.invariant.2, (g.B.ReadingBook.book c.args.book.now).most)
 
-pub overflow-add-from : goal.overflow-add-from
-overflow-add-from g c =
+pub overflow_add-from : goal.overflow_add-from
+overflow_add-from g c =
     let b = g.B.ReadingBook.book c.args.book.now in
     omega (arith, b.most, (next_some b.graph c.args.u c.loop-v.from c.in-Some.v c.in-Some.ensures.is).card)
 

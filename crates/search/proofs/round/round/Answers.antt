@@ -7,14 +7,14 @@ use Rattle.search.proofs.round.round.Goals.{then-levels-u+then-not-below, then-l
 pub loop-u-init : goal.loop-u-init
 loop-u-init g c = mid_start _ _ _ c.told-levels c.requires.before
 
-pub overflow-add-cards : goal.overflow-add-cards
-overflow-add-cards g c = omega (arith, mid_cards _ _ _ _ _ _ _ c.loop-u.invariant)
+pub overflow_add-cards : goal.overflow_add-cards
+overflow_add-cards g c = omega (arith, mid_cards _ _ _ _ _ _ _ c.loop-u.invariant)
 
-pub overflow-add-ends : goal.overflow-add-ends
-overflow-add-ends g c = omega (arith, mid_ends _ _ _ _ _ _ _ c.loop-u.invariant (omega arith) (g.B.ReadingBook.book c.args.book.now).most)
+pub overflow_add-ends : goal.overflow_add-ends
+overflow_add-ends g c = omega (arith, mid_ends _ _ _ _ _ _ _ c.loop-u.invariant (omega arith) (g.B.ReadingBook.book c.args.book.now).most)
 
-pub overflow-add-stayed : goal.overflow-add-stayed
-overflow-add-stayed g c = omega (arith, mid_cards _ _ _ _ _ _ _ c.loop-u.invariant)
+pub overflow_add-stayed : goal.overflow_add-stayed
+overflow_add-stayed g c = omega (arith, mid_cards _ _ _ _ _ _ _ c.loop-u.invariant)
 
 pub loop-u-preserved : goal.loop-u-preserved
 loop-u-preserved g c =
@@ -23,10 +23,10 @@ loop-u-preserved g c =
     elim c.if-levels-u.branch [
       | then-levels-u+then-not-below w ↦
           mid_at _ _ _ _ _ _ _ _ _ _ _ w.levels-is w.cards-is w.ends-is w.stayed-is
-          (mid_stay _ _ _ _ _ _ _ _ c.loop-u.invariant l (omega (arith, b.most)) w.if-levels-u.true w.partners-in-partners.ensures (sym w.if-not-below.ensures))
+          (mid_stay _ _ _ _ _ _ _ _ c.loop-u.invariant l (omega (arith, b.most)) w.if-levels-u.true w.partners_in-partners.ensures (sym w.if-not-below.ensures))
       | then-levels-u+else-not-below w ↦
           mid_at _ _ _ _ _ _ _ _ _ _ _ w.levels-is w.cards-is w.ends-is w.stayed-is
-          (mid_drop _ _ _ _ _ _ _ _ c.loop-u.invariant l w.if-levels-u.true w.partners-in-partners.ensures (sym w.if-not-below.ensures))
+          (mid_drop _ _ _ _ _ _ _ _ c.loop-u.invariant l w.if-levels-u.true w.partners_in-partners.ensures (sym w.if-not-below.ensures))
       | else-levels-u w ↦
           mid_at _ _ _ _ _ _ _ _ _ _ _ w.levels-is w.cards-is w.ends-is w.stayed-is
           (mid_pass _ _ _ _ _ _ _ c.loop-u.invariant l w.if-levels-u.false)

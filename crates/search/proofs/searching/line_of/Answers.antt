@@ -5,11 +5,11 @@ use Rattle.books.proofs.Sums.{ones_le}
 use Rattle.search.proofs.searching.line_of.Goals as goal
 use Rattle.search.proofs.searching.line_of.Goals.{then-set-u, else-set-u}
 
-pub overflow-add-cards : goal.overflow-add-cards
-overflow-add-cards g c = omega (arith, c.loop-u.invariant.0, ones_le (marked c.args.set.now) c.loop-u.u)
+pub overflow_add-cards : goal.overflow_add-cards
+overflow_add-cards g c = omega (arith, c.loop-u.invariant.0, ones_le (marked c.args.set.now) c.loop-u.u)
 
-pub overflow-add-ends : goal.overflow-add-ends
-overflow-add-ends g c =
+pub overflow_add-ends : goal.overflow_add-ends
+overflow_add-ends g c =
     let b = g.B.ReadingBook.book c.args.book.now in
     omega (arith, c.loop-u.invariant.1, ends_few b.graph (marked c.args.set.now) c.loop-u.u (omega (arith, b.most, c.cards-n.ensures.is)) b.most)
 

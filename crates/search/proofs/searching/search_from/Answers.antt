@@ -22,42 +22,42 @@ falls : (a b c : ℕ) → a < b → b ≤ c → c - b < c - a
 falls a b c h l = omega arith
 
 pub search-init : goal.search-init
-search-init g c = searching_start _ _ _ _ _ _ c.line-of-line.ensures
+search-init g c = searching_start _ _ _ _ _ _ c.line_of-line.ensures
 
-pub peel-book-requires : goal.peel-book-requires
-peel-book-requires g c = record {
+pub peel_book-requires : goal.peel_book-requires
+peel_book-requires g c = record {
   least = height_pos c.height-height.ensures.is c.cards.ensures.least;
   most = omega (arith, c.height-height.ensures.most, c.cards.ensures.most);
 }
 
-pub overflow-add-peels : goal.overflow-add-peels
-overflow-add-peels g c =
+pub overflow_add-peels : goal.overflow_add-peels
+overflow_add-peels g c =
     let b = g.B.ReadingBook.book c.args.book.now in
     omega (arith, searching_few _ _ _ _ _ _ _ _ b.lawful c.search.invariant, cube b.graph.cards b.most)
 
 pub search-smaller : goal.search-smaller
 search-smaller g c =
     let b = g.B.ReadingBook.book c.args.book.now in
-    let e = c.peel-book.ensures in
+    let e = c.peel_book.ensures in
     falls _ _ _
-    (searching_grows b.graph _ _ _ _ _ (marked c.marks-at-group.result) _ (rows c.peel-book.result.levels) c.peel-book.result.best.level _ _ _ b.lawful c.args.tolerance.least c.search.invariant
+    (searching_grows b.graph _ _ _ _ _ (marked c.marks_at-group.result) _ (rows c.peel_book.result.levels) c.peel_book.result.best.level _ _ _ b.lawful c.args.tolerance.least c.search.invariant
     (record { levels = e.levels; best = e.best; cards_are = e.cards; links_are = e.links })
-    (sym c.if-not-reached-by.ensures) (λ v h. c.marks-at-group.ensures v (omega (arith, b.most))))
-    (rank_le b.graph b.lawful (marked c.marks-at-group.result))
+    (sym c.if-not-reached_by.ensures) (λ v h. c.marks_at-group.ensures v (omega (arith, b.most))))
+    (rank_le b.graph b.lawful (marked c.marks_at-group.result))
 
 pub search-preserved : goal.search-preserved
 search-preserved g c =
     let b = g.B.ReadingBook.book c.args.book.now in
-    let e = c.peel-book.ensures in
-    searching_again b.graph _ _ _ _ _ (marked c.marks-at-group.result) _ _ (rows c.peel-book.result.levels) c.peel-book.result.best.level _ _ _ b.lawful c.args.tolerance.least c.search.invariant
+    let e = c.peel_book.ensures in
+    searching_again b.graph _ _ _ _ _ (marked c.marks_at-group.result) _ _ (rows c.peel_book.result.levels) c.peel_book.result.best.level _ _ _ b.lawful c.args.tolerance.least c.search.invariant
     (record { levels = e.levels; best = e.best; cards_are = e.cards; links_are = e.links })
-    (sym c.if-not-reached-by.ensures) (λ v h. c.marks-at-group.ensures v (omega (arith, b.most))) refl
+    (sym c.if-not-reached_by.ensures) (λ v h. c.marks_at-group.ensures v (omega (arith, b.most))) refl
 
 pub returns : goal.returns
 returns g c =
     let b = g.B.ReadingBook.book c.args.book.now in
-    let e = c.peel-book.ensures in
+    let e = c.peel_book.ensures in
     let high : Height c.args.tolerance.p c.args.tolerance.q b.graph.cards c.height-height.result = at_cards _ _ _ _ _ c.cards.ensures.is c.height-height.ensures.is in
-    let s = searching_ends b.graph _ _ _ _ _ _ (rows c.peel-book.result.levels) c.peel-book.result.best.level _ _ _ c.search.invariant
-    (record { levels = e.levels; best = e.best; cards_are = e.cards; links_are = e.links }) (sym c.if-not-reached-by.ensures) in
+    let s = searching_ends b.graph _ _ _ _ _ _ (rows c.peel_book.result.levels) c.peel_book.result.best.level _ _ _ c.search.invariant
+    (record { levels = e.levels; best = e.best; cards_are = e.cards; links_are = e.links }) (sym c.if-not-reached_by.ensures) in
     record { outcome = s; height = high; sound = search_sound b.lawful (omega (arith, c.args.tolerance.least, c.args.tolerance.order)) high s }

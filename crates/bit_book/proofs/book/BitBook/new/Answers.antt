@@ -6,20 +6,20 @@ use Rattle.bit_book.proofs.Places.{cleared_linked}
 use Rattle.bit_book.proofs.Writes.{cleared_count, made_kept}
 use Rattle.bit_book.proofs.book.BitBook.new.Goals as goal
 
-pub invariant-of-result : goal.invariant-of-result
-invariant-of-result c =
-    let k = made_kept c.cards-for-cards.result c.args.memory.now c.clear.new.memory
-    (omega (arith, c.cards-for-cards.ensures.fits))
-    (c.clear.ensures ∙ ap (λ b. cleared b c.args.memory.now) c.bytes-for.ensures) in
-    (c.cards-for-cards.ensures.least, (c.cards-for-cards.ensures.most, (k.0, (k.1, (k.2, tt)))))
+pub invariant_of-result : goal.invariant_of-result
+invariant_of-result c =
+    let k = made_kept c.cards_for-cards.result c.args.memory.now c.clear.new.memory
+    (omega (arith, c.cards_for-cards.ensures.fits))
+    (c.clear.ensures ∙ ap (λ b. cleared b c.args.memory.now) c.bytes_for.ensures) in
+    (c.cards_for-cards.ensures.least, (c.cards_for-cards.ensures.most, (k.0, (k.1, (k.2, tt)))))
 
 pub returns : goal.returns
 returns c =
-    let e = c.clear.ensures ∙ ap (λ b. cleared b c.args.memory.now) c.bytes-for.ensures in
+    let e = c.clear.ensures ∙ ap (λ b. cleared b c.args.memory.now) c.bytes_for.ensures in
     record {
-      cards = c.cards-for-cards.ensures.is;
-      none = λ u v. ap (λ xs. bit_linked c.cards-for-cards.result xs u v) e ∙ cleared_linked c.cards-for-cards.result c.args.memory.now u v;
-      links = ap (λ xs. link_count (bit_graph c.cards-for-cards.result xs)) e ∙ cleared_count c.cards-for-cards.result c.args.memory.now;
+      cards = c.cards_for-cards.ensures.is;
+      none = λ u v. ap (λ xs. bit_linked c.cards_for-cards.result xs u v) e ∙ cleared_linked c.cards_for-cards.result c.args.memory.now u v;
+      links = ap (λ xs. link_count (bit_graph c.cards_for-cards.result xs)) e ∙ cleared_count c.cards_for-cards.result c.args.memory.now;
       memory = e;
       lent = refl;
     }

@@ -7,25 +7,25 @@ pub bounds-self-i : goal.bounds-self-i
 bounds-self-i c =
     let s = c.args.self.now in
     let r = ready s.cards s.memory.now c.args.u c.args.v c.if-u-self.false c.if-v-self.false c.if-u-v.false s.fits in
-    byte_in s.cards s.memory.now c.args.u c.args.v c.pair-bit-k.result c.pair-bit-k.ensures r
+    byte_in s.cards s.memory.now c.args.u c.args.v c.pair_bit-k.result c.pair_bit-k.ensures r
 
 pub bounds-self-i-2 : goal.bounds-self-i-2
 bounds-self-i-2 c =
     let s = c.args.self.now in
     let r = ready s.cards s.memory.now c.args.u c.args.v c.if-u-self.false c.if-v-self.false c.if-u-v.false s.fits in
-    byte_in s.cards s.memory.now c.args.u c.args.v c.pair-bit-k.result c.pair-bit-k.ensures r
+    byte_in s.cards s.memory.now c.args.u c.args.v c.pair_bit-k.result c.pair_bit-k.ensures r
 
-pub overflow-sub-self : goal.overflow-sub-self
-overflow-sub-self c =
+pub overflow_sub-self : goal.overflow_sub-self
+overflow_sub-self c =
     let s = c.args.self.now in
     let r = ready s.cards s.memory.now c.args.u c.args.v c.if-u-self.false c.if-v-self.false c.if-u-v.false s.fits in
     omega (arith, s.tally, take_tally s.cards s.memory.now c.args.u c.args.v r c.if-not-holds.ensures)
 
-pub invariant-of-self : goal.invariant-of-self
-invariant-of-self c =
+pub invariant_of-self : goal.invariant_of-self
+invariant_of-self c =
     let s = c.args.self.now in
     let r = ready s.cards s.memory.now c.args.u c.args.v c.if-u-self.false c.if-v-self.false c.if-u-v.false s.fits in
-    let k = take_kept s.cards s.links s.memory.now c.args.u c.args.v c.pair-bit-k.result c.pair-bit-k.ensures r c.if-not-holds.ensures (s.fits, s.tally, s.padding) in
+    let k = take_kept s.cards s.links s.memory.now c.args.u c.args.v c.pair_bit-k.result c.pair_bit-k.ensures r c.if-not-holds.ensures (s.fits, s.tally, s.padding) in
     (s.least, (s.most, (k.0, (k.1, (k.2, tt)))))
 
 pub returns : goal.returns
@@ -34,8 +34,8 @@ returns c =
     let r = ready s.cards s.memory.now c.args.u c.args.v c.if-u-self.false c.if-v-self.false c.if-u-v.false s.fits in
     record {
       answer = take_answer s.cards s.memory.now c.args.u c.args.v r c.if-not-holds.ensures;
-      links = take_wrote s.cards s.memory.now c.args.u c.args.v c.pair-bit-k.result c.pair-bit-k.ensures r c.if-not-holds.ensures;
+      links = take_wrote s.cards s.memory.now c.args.u c.args.v c.pair_bit-k.result c.pair_bit-k.ensures r c.if-not-holds.ensures;
       places = refl;
-      memory = wrote_is s.memory.now c.pair-bit-k.result (bit_of c.args.u c.args.v) c.pair-bit-k.ensures;
+      memory = wrote_is s.memory.now c.pair_bit-k.result (bit_of c.args.u c.args.v) c.pair_bit-k.ensures;
       lent = refl;
     }

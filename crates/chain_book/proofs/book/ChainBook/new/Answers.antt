@@ -8,19 +8,19 @@ use Rattle.chain_book.specs.Layout.{laid}
 use Rattle.chain_book.proofs.Layouts.{made_places, made_none, made_sound, made_free, made_own, made_fits, none_count}
 use Rattle.chain_book.proofs.book.ChainBook.new.Goals as goal
 
-pub invariant-of-result : goal.invariant-of-result
-invariant-of-result c =
+pub invariant_of-result : goal.invariant_of-result
+invariant_of-result c =
     let asked = c.args.cards in
     let records = length c.args.records.now in
     let n = c.sizes-cards.result.0 in
     let m = c.sizes-cards.result.1 in
     let en = c.sizes-cards.ensures.cards in
     let em = c.sizes-cards.ensures.needed in
-    let ss = c.lay-out.new.records in (
+    let ss = c.lay_out.new.records in (
       ∣ record {
-        fits = made_fits asked records n m en em c.args.records.now ss c.lay-out.ensures;
-        sound = subst (λ (zs : List Record). Sound c.sizes-cards.result.0 zs c.first-free-free.result 0) (sym (made_own asked records n m en em c.args.records.now ss c.lay-out.ensures))
-            (subst (λ (x : ℕ). Sound c.sizes-cards.result.0 (laid c.sizes-cards.result.0 c.sizes-cards.result.1) x 0) (sym c.first-free-free.ensures) (made_sound asked records n m en em));
+        fits = made_fits asked records n m en em c.args.records.now ss c.lay_out.ensures;
+        sound = subst (λ (zs : List Record). Sound c.sizes-cards.result.0 zs c.first_free-free.result 0) (sym (made_own asked records n m en em c.args.records.now ss c.lay_out.ensures))
+            (subst (λ (x : ℕ). Sound c.sizes-cards.result.0 (laid c.sizes-cards.result.0 c.sizes-cards.result.1) x 0) (sym c.first_free-free.ensures) (made_sound asked records n m en em));
       } ∣₁,
       tt,
     )
@@ -33,14 +33,14 @@ returns c =
     let m = c.sizes-cards.result.1 in
     let en = c.sizes-cards.ensures.cards in
     let em = c.sizes-cards.ensures.needed in
-    let own = made_own asked records n m en em c.args.records.now c.lay-out.new.records c.lay-out.ensures in
+    let own = made_own asked records n m en em c.args.records.now c.lay_out.new.records c.lay_out.ensures in
     record {
       cards = en;
       needed = em;
       places = made_places asked records n m en em;
       none = λ u v. ap (λ (zs : List Record). chain_linked c.sizes-cards.result.0 zs u v) own ∙ made_none asked records n m en em u v;
       links = ap (λ (zs : List Record). link_count (chain_graph c.sizes-cards.result.0 zs)) own ∙ none_count n (laid n m) (made_none asked records n m en em);
-      records = c.lay-out.ensures;
-      free = ap (λ (zs : List Record). free_records zs c.first-free-free.result) own ∙ (ap (free_records (laid n m)) c.first-free-free.ensures ∙ made_free asked records n m en em);
+      records = c.lay_out.ensures;
+      free = ap (λ (zs : List Record). free_records zs c.first_free-free.result) own ∙ (ap (free_records (laid n m)) c.first_free-free.ensures ∙ made_free asked records n m en em);
       lent = refl;
     }

@@ -3,8 +3,8 @@ use Rattle.chain_book.specs.Standing.{graph_of}
 use Rattle.chain_book.proofs.Once.{in_order}
 use Rattle.chain_book.proofs.book.ChainBookReadingBook.next_partner.Goals as goal
 
-pub next-partner-requires : goal.next-partner-requires
-next-partner-requires c = in_order c.args.self.now.parts c.args.self.now.standing
+pub next_partner-requires : goal.next_partner-requires
+next_partner-requires c = in_order c.args.self.now.parts c.args.self.now.standing
 
 pub returns : goal.returns
 returns c =

@@ -2,8 +2,8 @@ use Rattle.std.proofs.Common.{sym, arith}
 use Rattle.closed_book.proofs.Counts.{links_are, links_small}
 use Rattle.closed_book.proofs.book.ClosedBookReadingBook.links.Goals as goal
 
-pub overflow-cast-result : goal.overflow-cast-result
-overflow-cast-result c = omega (arith, links_small c.args.self.now.cards c.args.self.now.list.now c.args.self.now.ok)
+pub overflow_cast-result : goal.overflow_cast-result
+overflow_cast-result c = omega (arith, links_small c.args.self.now.cards c.args.self.now.list.now c.args.self.now.ok)
 
 pub returns : goal.returns
 returns c = sym (links_are c.args.self.now.cards c.args.self.now.list.now c.args.self.now.ok)

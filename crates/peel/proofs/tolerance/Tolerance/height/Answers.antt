@@ -3,16 +3,16 @@ use Rattle.peel.specs.Tolerances.{Height, Next, stands, falls}
 use Rattle.peel.proofs.Heights.{next_is, next_less, height_one}
 use Rattle.peel.proofs.tolerance.Tolerance.height.Goals as goal
 
-pub overflow-mul-left : goal.overflow-mul-left
-overflow-mul-left c =
+pub overflow_mul-left : goal.overflow_mul-left
+overflow_mul-left c =
     let few : c.loop-left.left ≤ 65535 = omega (arith, c.loop-left.invariant.1) in
     omega (arith, mul-le-mul few c.args.self.most)
 
-pub overflow-sub-left : goal.overflow-sub-left
-overflow-sub-left c = mul-pos c.loop-left-test.true (omega (arith, c.args.self.least, c.args.self.order))
+pub overflow_sub-left : goal.overflow_sub-left
+overflow_sub-left c = mul-pos c.loop-left-test.true (omega (arith, c.args.self.least, c.args.self.order))
 
-pub overflow-add-turns : goal.overflow-add-turns
-overflow-add-turns c = omega (arith, c.loop-left.invariant.1)
+pub overflow_add-turns : goal.overflow_add-turns
+overflow_add-turns c = omega (arith, c.loop-left.invariant.1)
 
 pub loop-left-init : goal.loop-left-init
 loop-left-init c = (λ k h. subst (λ (j : ℕ). Height c.args.self.p c.args.self.q c.args.cards j) (sym (zero-add k)) h, omega arith)
