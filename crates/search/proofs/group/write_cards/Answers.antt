@@ -36,5 +36,5 @@ returns c =
     let e : c.loop-v.v ≡ c.args.n = omega arith in
     c.loop-v.invariant.1 ∙ (λ i. listed X (e i) ++ drop ((c.loop-v.invariant.0 ∙ ap (count X) e) i) c.args.list.now)
 
-pub offset-bounds-list-at : goal.offset-bounds-list-at
-offset-bounds-list-at c = omega (arith, c.loop-v.invariant.0, ones_le (marked c.args.marks.now) c.loop-v.v, c.requires.few)
+pub offset_bounds-list-at : goal.offset_bounds-list-at
+offset_bounds-list-at c = omega (arith, c.loop-v.invariant.0, ones_le (marked c.args.marks.now) c.loop-v.v, c.requires.few)

@@ -39,4 +39,4 @@ loop-v-preserved g c =
 pub returns : goal.returns
 returns g c =
     let b = g.B.ReadingBook.book c.args.book.now in
-    c.loop-v.invariant.0 ∙ walk_done b.graph (g.S.CardSet.members c.args.set.now) c.args.u c.loop-v.from c.in-default.ensures.is c.loop-v.invariant.1
+    c.loop-v.invariant.0 ∙ walk_done b.graph (g.S.CardSet.members c.args.set.now) c.args.u c.loop-v.from c.in_default.ensures.is c.loop-v.invariant.1

@@ -11,7 +11,7 @@ invariant_of-result c =
     let k = made_kept c.cards_for-cards.result c.args.memory.now c.clear.new.memory
     (omega (arith, c.cards_for-cards.ensures.fits))
     (c.clear.ensures ∙ ap (λ b. cleared b c.args.memory.now) c.bytes_for.ensures) in
-    (c.cards_for-cards.ensures.least, (c.cards_for-cards.ensures.most, (k.0, (k.1, (k.2, tt)))))
+    record { least = c.cards_for-cards.ensures.least; most = c.cards_for-cards.ensures.most; fits = k.0; tally = k.1; padding = k.2 }
 
 pub returns : goal.returns
 returns c =

@@ -26,7 +26,7 @@ invariant_of-self c =
     let s = c.args.self.now in
     let r = ready s.cards s.memory.now c.args.u c.args.v c.if-u-self.false c.if-v-self.false c.if-u-v.false s.fits in
     let k = take_kept s.cards s.links s.memory.now c.args.u c.args.v c.pair_bit-k.result c.pair_bit-k.ensures r c.if-not-holds.ensures (s.fits, s.tally, s.padding) in
-    (s.least, (s.most, (k.0, (k.1, (k.2, tt)))))
+    record { least = s.least; most = s.most; fits = k.0; tally = k.1; padding = k.2 }
 
 pub returns : goal.returns
 returns c =

@@ -16,14 +16,14 @@ invariant_of-result c =
     let m = c.sizes-cards.result.1 in
     let en = c.sizes-cards.ensures.cards in
     let em = c.sizes-cards.ensures.needed in
-    let ss = c.lay_out.new.records in (
-      ∣ record {
+    let ss = c.lay_out.new.records in
+    record {
+      standing = ∣ record {
         fits = made_fits asked records n m en em c.args.records.now ss c.lay_out.ensures;
         sound = subst (λ (zs : List Record). Sound c.sizes-cards.result.0 zs c.first_free-free.result 0) (sym (made_own asked records n m en em c.args.records.now ss c.lay_out.ensures))
             (subst (λ (x : ℕ). Sound c.sizes-cards.result.0 (laid c.sizes-cards.result.0 c.sizes-cards.result.1) x 0) (sym c.first_free-free.ensures) (made_sound asked records n m en em));
-      } ∣₁,
-      tt,
-    )
+      } ∣₁;
+    }
 
 pub returns : goal.returns
 returns c =

@@ -12,4 +12,4 @@ enter-requires c = record {
 }
 
 pub invariant_of-self : goal.invariant_of-self
-invariant_of-self c = (∣ c.enter.ensures.standing ∣₁, tt)
+invariant_of-self c = record { standing = ∣ c.enter.ensures.standing ∣₁ }

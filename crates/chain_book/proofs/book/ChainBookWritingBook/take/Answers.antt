@@ -12,4 +12,4 @@ leave-requires c = record {
 }
 
 pub invariant_of-self : goal.invariant_of-self
-invariant_of-self c = (∣ c.leave.ensures.standing ∣₁, tt)
+invariant_of-self c = record { standing = ∣ c.leave.ensures.standing ∣₁ }
