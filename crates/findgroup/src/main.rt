@@ -33,6 +33,7 @@ use found::{Cards, group_of};
 use link_text::{Setup, read_link, read_setup, words_of};
 use peel::Tolerance;
 use std::io::{BufRead, BufReader, Lines, Stdin};
+use std::process::ExitCode;
 use trouble::Trouble;
 
 // Enough for the bits of 1,024 cards.
@@ -40,21 +41,31 @@ const MEMORY: usize = 65_472;
 
 type Input = Lines<BufReader<Stdin>>;
 
-fn main(rt: HostRuntime) -> Result<(), Trouble> {
-    let result = run(&rt);
-    if let Err(trouble) = &result {
-        let _ = eprintln!(rt; "findgroup: {trouble}");
+fn main(rt: HostRuntime) -> ExitCode {
+    match run(&rt) {
+        Ok(()) => ExitCode::SUCCESS,
+        Err(trouble) => {
+            let _ = eprintln!(rt; "findgroup: {trouble}");
+            ExitCode::FAILURE
+        }
     }
-    result
 }
 
 fn run(rt: &HostRuntime) -> Result<(), Trouble> {
-    let mut lines = BufReader::new(rt.alloc(), rt.stdin())?.lines(rt.alloc());
+    let mut lines = input(rt)?;
     let setup = first_line(&mut lines)?;
     let mut memory = [0u8; MEMORY];
     let tolerance = suited(setup, &memory)?;
     let book = BitBook::new(setup.cards, &mut memory);
     find(rt, lines, book, tolerance)
+}
+
+// The lines of standard input. Where there is no memory for them, the first cannot be read.
+fn input(rt: &HostRuntime) -> Result<Input, Trouble> {
+    match BufReader::new(rt.alloc(), rt.stdin()) {
+        Ok(reader) => Ok(reader.lines(rt.alloc())),
+        Err(error) => Err(Trouble::Input { line: 1, error }),
+    }
 }
 
 // The setup. An input without a line reads as an empty one.
