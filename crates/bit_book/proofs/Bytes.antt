@@ -1,5 +1,5 @@
 -- Bits of bytes: what a turned bit, and a run of cleared bytes, leave of each.
-use Rattle.std.proofs.Common.{◌≡◌, ℕ, zero, suc, ◌+◌, ◌-◌, ◌*◌, ◌/◌, ◌%◌, ◌^◌, ◌<◌, false, not, eqb, ◌⊎◌, List, length, get_or, drop, set, replicate, sym, refl, ap, ◌∙◌, subst, inl, inr, ⊎_elim, arith, get_or-set_other, get_or-set_same}
+use Rattle.std.proofs.Common.{◌≡◌, ℕ, zero, suc, ◌+◌, ◌-◌, ◌*◌, ◌/◌, ◌%◌, ◌^◌, ◌<◌, false, not, eqb, ◌⊎◌, List, length, get_or, drop, replicate, sym, refl, ap, ◌∙◌, subst, inl, inr, ⊎_elim, arith, get_or-set_other, get_or-set_same}
 use native.Mathlib.Nat.{zero-div, div_self, div-eq_of_lt, pow-succ', mul-mod_right}
 use lib.Bits.{bit_xor, xor_shr, xor_mod}
 use Rattle.std.proofs.lemmas.Nat.{pow_pos, pow-add, shl-shr, pow_below, one_shl, mod_below, div_below}

@@ -1,5 +1,5 @@
 -- Where a bit book keeps each pair of cards.
-use Rattle.std.specs.Prelude.{ℕ, ◌+◌, ◌-◌, ◌*◌, ◌/◌, ◌%◌, ◌^◌, Bool, cond, ◌&&◌, List, ◌++◌, drop, set, replicate, ◌==◌, bit_xor, nat_le, nat_lt, slice_index, slice_set}
+use Rattle.std.specs.Prelude.{ℕ, ◌+◌, ◌-◌, ◌*◌, ◌/◌, ◌%◌, ◌^◌, Bool, cond, ◌&&◌, List, ◌++◌, drop, replicate, ◌==◌, bit_xor, nat_le, nat_lt, slice_index, slice_set}
 use Rattle.books.specs.Books.{cards_suit}
 
 -- how many pairs n cards have

@@ -1,5 +1,5 @@
 -- What is written of numbers in decimal reads as these numbers.
-use Rattle.std.proofs.Common.{◌≡◌, ℕ, ◌<◌, ◌≤◌, true, cond, not, List, [], ◌∷◌, ◌++◌, length, Ok, Err, decimal, Result, sym, refl, ap, ◌∙◌, arith, rules}
+use Rattle.std.proofs.Common.{◌≡◌, ℕ, ◌<◌, true, cond, List, [], ◌∷◌, ◌++◌, length, Ok, Err, decimal, Result, refl, ap, ◌∙◌, arith, rules}
 use Rattle.std.proofs.lemmas.Bool.{and_parts, lt-ltb}
 use Rattle.std.proofs.lemmas.Str.Parse.{IsNumeralModel, numerals_by_fold}
 use Rattle.std.proofs.lemmas.Fmt.{digits_decimal, digits_value-decimal, decimal_nonempty}
@@ -7,7 +7,7 @@ use Rattle.link_text.specs.declared.fault.Fault.{Fault}
 use Rattle.link_text.specs.declared.fault.Fault.TheVariants.{NotDigits, TooLarge}
 use Rattle.link_text.specs.declared.line.Setup.{Setup}
 use Rattle.link_text.specs.Numbers.{is_digit, all_digits, value_after, small, number_in}
-use Rattle.link_text.specs.Lines.{not_space, in_front, words, and_then, with_number, at_end, link_in, setup_in, link_text, setup_text}
+use Rattle.link_text.specs.Lines.{in_front, words, and_then, with_number, at_end, link_in, setup_in, link_text, setup_text}
 use Rattle.link_text.proofs.Digits.{digit_least}
 use Rattle.link_text.proofs.Splits.{at_other}
 

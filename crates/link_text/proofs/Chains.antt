@@ -1,7 +1,6 @@
 -- Number after number: what each step of a reading told, put together.
 use Rattle.std.proofs.Common.{◌≡◌, ℕ, List, [], ◌∷◌, Ok, Err, Result, sym, ap, ◌∙◌}
 use Rattle.link_text.specs.declared.fault.Fault.{Fault}
-use Rattle.link_text.specs.declared.line.Setup.{Setup}
 use Rattle.link_text.specs.Lines.{words, words_from, and_then, first_number, with_number, at_end, link_in, setup_in}
 use Rattle.link_text.proofs.Splits.{from_first}
 

@@ -1,7 +1,7 @@
 -- What a line of numbers says.
-use Rattle.std.specs.Prelude.{ℕ, Bool, true, false, cond, not, List, [], ◌∷◌, ◌++◌, length, drop, Ok, Err, decimal, Result, ◌==◌, nat_le}
+use Rattle.std.specs.Prelude.{ℕ, Bool, cond, not, List, [], ◌∷◌, ◌++◌, length, drop, Ok, Err, decimal, Result, ◌==◌, nat_le}
 use Rattle.link_text.specs.declared.fault.Fault.{Fault}
-use Rattle.link_text.specs.declared.fault.Fault.TheVariants.{Missing, NotDigits, TooLarge, MoreFollows}
+use Rattle.link_text.specs.declared.fault.Fault.TheVariants.{Missing, MoreFollows}
 use Rattle.link_text.specs.declared.line.Setup.{Setup}
 use Rattle.link_text.specs.Numbers.{number_in}
 

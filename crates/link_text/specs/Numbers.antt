@@ -1,7 +1,7 @@
 -- What a number is in text, byte by byte.
-use Rattle.std.specs.Prelude.{ℕ, ◌+◌, ◌-◌, ◌*◌, Bool, true, false, cond, ◌&&◌, List, [], ◌∷◌, Ok, Err, Result, nat_le, nat_lt}
+use Rattle.std.specs.Prelude.{ℕ, ◌+◌, ◌-◌, ◌*◌, Bool, true, cond, ◌&&◌, List, [], ◌∷◌, Ok, Err, Result, nat_le, nat_lt}
 use Rattle.link_text.specs.declared.fault.Fault.{Fault}
-use Rattle.link_text.specs.declared.fault.Fault.TheVariants.{Missing, NotDigits, TooLarge, MoreFollows}
+use Rattle.link_text.specs.declared.fault.Fault.TheVariants.{Missing, NotDigits, TooLarge}
 
 -- one of the digits 0 to 9
 abbrev pub is_digit : ℕ → Bool

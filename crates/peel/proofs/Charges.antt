@@ -1,9 +1,9 @@
 -- Each link inside a set is charged to an end of lower level; and each is met from both its ends.
-use Rattle.std.proofs.Common.{◌≡◌, ℕ, zero, suc, ◌+◌, ◌-◌, ◌*◌, ◌<◌, ◌≤◌, Bool, true, false, leb, ◌⊎◌, sym, refl, ap, ◌∙◌, subst, inl, inr, zero-le, mul-le-mul_right, mul-le-mul_left, arith}
+use Rattle.std.proofs.Common.{◌≡◌, ℕ, ◌+◌, ◌*◌, ◌<◌, ◌≤◌, Bool, true, false, leb, sym, refl, ap, ◌∙◌, subst, inl, inr, zero-le, mul-le-mul_right, mul-le-mul_left, arith}
 use Rattle.std.proofs.lemmas.Bool.{cases_lt, le-leb}
 use Rattle.books.specs.Sums.{sum_to, pair_sum, one, when}
 use Rattle.books.specs.Graphs.{Graph, Lawful, weight}
-use Rattle.books.proofs.Sums.{sum_le, sum_eq, sum_mul, sum_none, square, pairs_le, pairs_eq, one_le, sum_most, ones_le}
+use Rattle.books.proofs.Sums.{sum_le, sum_eq, sum_mul, sum_none, square, pairs_le, one_le, sum_most}
 use Rattle.peel.specs.Sets.{Cards, size, partners_in, links_in}
 use Rattle.peel.specs.Levels.{Rules, Table, at_least, AllRestUnder}
 use Rattle.peel.specs.Lines.{below}

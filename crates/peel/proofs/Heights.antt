@@ -1,5 +1,5 @@
 -- Heights: there is one, and only one.
-use Rattle.std.proofs.Common.{◌≡◌, ℕ, zero, suc, ◌+◌, ◌-◌, ◌*◌, ◌/◌, ◌<◌, ◌≤◌, sym, refl, ap, ◌∙◌, subst, mul-le-mul_right, le_antisymm, lt_of_mul-lt-mul_right, mul-le-mul_left, mul-pos, le-div_iff_mul-le, arith}
+use Rattle.std.proofs.Common.{◌≡◌, ℕ, suc, ◌+◌, ◌-◌, ◌*◌, ◌/◌, ◌<◌, ◌≤◌, refl, ap, subst, le_antisymm, lt_of_mul-lt-mul_right, mul-pos, le-div_iff_mul-le, arith}
 use Rattle.peel.specs.Tolerances.{Next, Height, stands, falls}
 
 pub next_is : (p q c : ℕ) → 1 ≤ p → p ≤ q → 0 < c → Next p q c ((c * q - 1) / (q + p))

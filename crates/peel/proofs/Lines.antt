@@ -1,7 +1,7 @@
 -- Counts and sets against a line, and partners in larger sets.
-use Rattle.std.proofs.Common.{◌≡◌, ℕ, zero, suc, ◌+◌, ◌-◌, ◌*◌, ◌<◌, ◌≤◌, Bool, true, false, cond, not, ◌&&◌, ◌||◌, eqb, ltb, leb, ◌⊎◌, sym, refl, ap, ◌∙◌, subst, ap₂, inl, inr, zero-le, le_refl, mul-le-mul_right, lt_of_mul-lt-mul_right, mul-le-mul_left, mul-pos, le_of_mul-le-mul_right, arith}
+use Rattle.std.proofs.Common.{◌≡◌, ℕ, ◌+◌, ◌*◌, ◌<◌, ◌≤◌, Bool, true, false, ◌⊎◌, sym, refl, ap, ◌∙◌, ap₂, inl, inr, zero-le, le_refl, mul-le-mul_right, lt_of_mul-lt-mul_right, mul-le-mul_left, mul-pos, le_of_mul-le-mul_right, arith}
 use Rattle.std.proofs.lemmas.Bool.{ltb-true, ltb-false, eqb-true, eqb-false, leb-true, leb-false, le-leb, lt-ltb, eq-eqb, ne_eqb, cases_eq, cond-true, cond-false, both_ways}
-use Rattle.books.specs.Sums.{sum_to, one, when}
+use Rattle.books.specs.Sums.{one, when}
 use Rattle.books.specs.Graphs.{Graph, weight}
 use Rattle.books.proofs.Sums.{sum_le, sum_eq, pairs_eq, ones_le}
 use Rattle.peel.specs.declared.line.Line.{Line}

@@ -1,14 +1,14 @@
 -- Peels: how fast they shrink, and their levels.
-use Rattle.std.proofs.Common.{◌≡◌, ℕ, zero, suc, ◌+◌, ◌-◌, ◌*◌, ◌<◌, ◌≤◌, Bool, true, false, cond, not, ◌&&◌, eqb, ltb, leb, ◌⊎◌, sym, refl, ap, ◌∙◌, subst, inl, inr, zero-le, add-zero, mul-le-mul_right, le_antisymm, lt_of_mul-lt-mul_right, mul-le-mul_left, mul-lt-mul_of_pos_right, mul-pos, zero-add, arith}
-use Rattle.std.proofs.lemmas.Bool.{cases_eq, cases_Bool, and_parts, and_from, not_from_false, not-true, both_ways, lt-ltb, le-leb, lt-leb, leb-true, cond-true, cond-false, cases_lt, le-ltb, and_left}
-use Rattle.books.specs.Sums.{sum_to, one, when}
-use Rattle.books.specs.Graphs.{Graph, Lawful}
+use Rattle.std.proofs.Common.{◌≡◌, ℕ, zero, suc, ◌+◌, ◌-◌, ◌*◌, ◌<◌, ◌≤◌, Bool, true, false, cond, not, ◌&&◌, ltb, ◌⊎◌, sym, refl, ap, ◌∙◌, subst, inl, inr, zero-le, add-zero, mul-le-mul_right, le_antisymm, lt_of_mul-lt-mul_right, mul-lt-mul_of_pos_right, mul-pos, zero-add, arith}
+use Rattle.std.proofs.lemmas.Bool.{cases_eq, cases_Bool, and_parts, and_from, not_from_false, not-true, both_ways, lt-ltb, le-leb, lt-leb, leb-true, cond-true, cond-false, cases_lt, le-ltb}
+use Rattle.books.specs.Sums.{sum_to, one}
+use Rattle.books.specs.Graphs.{Lawful}
 use Rattle.books.proofs.Sums.{sum_le, sum_lt, sum_mul, sum_none, sum_at}
 use Rattle.peel.specs.Tolerances.{Next, Height, stands, falls}
 use Rattle.peel.specs.Sets.{Cards, Same, size, partners_in, links_in}
-use Rattle.peel.specs.Lines.{below, reaches}
+use Rattle.peel.specs.Lines.{below}
 use Rattle.peel.specs.Levels.{Rules, Table, at_least, Rests, RestsAbove, LowestAbove, zeros, AllRestUnder}
-use Rattle.peel.specs.Peels.{peel, peel_cards, peel_links, LevelsUpTo, PeelLevels}
+use Rattle.peel.specs.Peels.{peel, peel_cards, LevelsUpTo, PeelLevels}
 use Rattle.peel.specs.Searches.{reaches_at}
 use Rattle.peel.proofs.Charges.{handshake}
 use Rattle.peel.proofs.Lines.{partners_le, partners_same, below_down, not_below, short_of, size_le}

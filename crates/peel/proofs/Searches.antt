@@ -1,15 +1,12 @@
 -- Searches: what they leave, that there is one outcome, and what grows from step to step.
-use Rattle.std.proofs.Common.{◌≡◌, ℕ, zero, suc, ◌+◌, ◌-◌, ◌*◌, ◌/◌, ◌<◌, ◌≤◌, Bool, true, false, ◌⊎◌, sym, refl, ap, ◌∙◌, subst, inl, inr, le_of_eq, le_refl, lt_of_lt_of_le, mul-le-mul_right, mul-le-mul, le_antisymm, mul-le-mul_left, mul-pos, le-div_iff_mul-le, div-mul-le_self, le_of_mul-le-mul_right, arith}
+use Rattle.std.proofs.Common.{◌≡◌, ℕ, suc, ◌*◌, ◌/◌, ◌<◌, ◌≤◌, true, false, sym, refl, ap, ◌∙◌, subst, inl, inr, le_of_eq, le_refl, lt_of_lt_of_le, mul-le-mul_right, mul-le-mul, mul-le-mul_left, le-div_iff_mul-le, div-mul-le_self, le_of_mul-le-mul_right, arith}
 use native.Mathlib.Nat.{div-le_of_le-mul, zero-div}
 use Rattle.std.proofs.lemmas.Bool.{cases_eq, cases_Bool, both_ways}
-use Rattle.books.specs.Sums.{one}
 use Rattle.books.specs.Graphs.{Graph, Lawful}
-use Rattle.books.proofs.Sums.{sum_eq}
-use Rattle.peel.specs.declared.line.Line.{Line}
 use Rattle.peel.specs.Tolerances.{Height}
 use Rattle.peel.specs.Sets.{Cards, Same, size, links_in}
 use Rattle.peel.specs.Lines.{line_of, reaches}
-use Rattle.peel.specs.Levels.{Rules, rules, Table, AllRestUnder, LowestAbove, zeros}
+use Rattle.peel.specs.Levels.{Rules, rules, AllRestUnder}
 use Rattle.peel.specs.Peels.{peel, peel_cards, peel_links, PeelLevels, Best}
 use Rattle.peel.specs.Searches.{Outcome, rules_from, reaches_at, Search, ends, again, Alike}
 use Rattle.peel.specs.Theorems.{Sound}

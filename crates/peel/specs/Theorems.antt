@@ -1,5 +1,5 @@
 -- What holds of every search, and the worked cases of the definitions.
-use Rattle.std.specs.Prelude.{◌≡◌, ℕ, ◌+◌, ◌*◌, ◌<◌, ◌≤◌, true, false, Some, None}
+use Rattle.std.specs.Prelude.{◌≡◌, ℕ, ◌+◌, ◌*◌, ◌≤◌, true, false, Some, None}
 use Rattle.books.specs.declared.refusal.Refusal.TheVariants.{BadTolerance}
 use Rattle.books.specs.Graphs.{Graph}
 use Rattle.peel.specs.declared.line.Line.{Line}
@@ -7,7 +7,7 @@ use Rattle.peel.specs.Tolerances.{tolerance_refusal, Height}
 use Rattle.peel.specs.Sets.{Cards, size, links_in}
 use Rattle.peel.specs.Lines.{line_of, below, reaches}
 use Rattle.peel.specs.Levels.{LowestAbove, zeros, AllRestUnder}
-use Rattle.peel.specs.Searches.{Outcome, rules_from, Search, Alike}
+use Rattle.peel.specs.Searches.{Outcome, rules_from}
 
 -- no set is denser than a group of so many links and cards by more than the factor 2(q+p)²/q²
 abbrev pub NoneDenser : Graph → ℕ → ℕ → ℕ → ℕ → Type 0

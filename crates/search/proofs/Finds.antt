@@ -1,5 +1,5 @@
 -- From the search that the code ran to what the search by itself answers.
-use Rattle.std.proofs.Common.{◌≡◌, ℕ, ◌<◌, ◌≤◌, Bool, true, false, cond, List, ◌++◌, length, drop, replicate, IfOk, Ok, Err, Result, sym, refl, ap, ◌∙◌, subst, ap₂, arith}
+use Rattle.std.proofs.Common.{◌≡◌, ℕ, ◌<◌, ◌≤◌, true, false, List, ◌++◌, length, drop, replicate, IfOk, Ok, Err, Result, sym, refl, ap, ◌∙◌, subst, arith}
 use Rattle.std.specs.Result.{result_err}
 use Rattle.std.proofs.lemmas.List.{get_or-replicate}
 use Rattle.std.proofs.lemmas.Bool.{lt-ltb, le-ltb, cond-true, cond-false}
@@ -10,7 +10,7 @@ use Rattle.books.specs.Graphs.{Graph, Lawful}
 use Rattle.books.specs.Refusals.{unless_refused}
 use Rattle.peel.specs.Tolerances.{Height}
 use Rattle.peel.specs.Sets.{Cards, everyone, Same, size, links_in, listed}
-use Rattle.peel.specs.Searches.{Outcome, Search, Alike, Finds}
+use Rattle.peel.specs.Searches.{Outcome, Search, Alike}
 use Rattle.peel.specs.declared.line.Line.{Line}
 use Rattle.peel.specs.Theorems.{NoneDenser, Sound}
 use Rattle.peel.proofs.Heights.{height_one}

@@ -1,12 +1,12 @@
 -- A peel between two rounds, and how it ends.
-use Rattle.std.proofs.Common.{◌≡◌, ℕ, zero, suc, ◌+◌, ◌-◌, ◌*◌, ◌/◌, ◌<◌, ◌≤◌, Bool, true, false, cond, ltb, ◌⊎◌, List, length, sym, refl, ap, ◌∙◌, subst, inl, inr, arith}
-use Rattle.std.proofs.lemmas.Bool.{cases_Bool, lt-ltb}
-use Rattle.books.specs.Sums.{sum_to, pair_sum, one, when}
+use Rattle.std.proofs.Common.{◌≡◌, ℕ, suc, ◌+◌, ◌-◌, ◌*◌, ◌<◌, ◌≤◌, Bool, true, false, cond, ltb, List, length, sym, ap, ◌∙◌, subst, inl, inr, arith}
+use Rattle.std.proofs.lemmas.Bool.{lt-ltb}
+use Rattle.books.specs.Sums.{one, when}
 use Rattle.books.specs.Graphs.{Graph, weight, link_count}
 use Rattle.books.proofs.Sums.{sum_eq, sum_const, pairs_eq}
-use Rattle.peel.specs.Sets.{Cards, everyone, size, links_in}
+use Rattle.peel.specs.Sets.{everyone, size, links_in}
 use Rattle.peel.specs.Levels.{Rules}
-use Rattle.peel.specs.Peels.{peel, peel_cards, peel_links, LevelsUpTo, PeelLevels, Densest, Best}
+use Rattle.peel.specs.Peels.{peel_cards, peel_links, LevelsUpTo, PeelLevels, Densest, Best}
 use Rattle.peel.proofs.Lines.{size_same, links_same}
 use Rattle.peel.proofs.Bests.{densest_one, densest_step, densest_extends}
 use Rattle.peel.proofs.Peels.{level_is, levels_same, none_later, levels_empty, stays_to, levels_lifted}

@@ -1,13 +1,13 @@
 -- A round of a peel, card by card.
-use Rattle.std.proofs.Common.{◌≡◌, ℕ, suc, ◌+◌, ◌*◌, ◌<◌, ◌≤◌, Bool, true, false, cond, not, ◌&&◌, leb, ◌⊎◌, List, length, get_or, set, sym, refl, ap, ◌∙◌, subst, inl, inr, arith, length-set}
+use Rattle.std.proofs.Common.{◌≡◌, ℕ, suc, ◌+◌, ◌*◌, ◌<◌, ◌≤◌, true, false, leb, List, length, set, sym, refl, ap, ◌∙◌, subst, inl, inr, arith, length-set}
 use Rattle.std.proofs.lemmas.List.{get_or-set_same, get_or-set_other}
 use Rattle.std.proofs.lemmas.Bool.{cases_eq, cases_lt, le-leb, lt-leb, and_from, and_left, and_right, not_from_true, not_from_false, cond-true, cond-false}
 use Rattle.books.specs.Sums.{sum_to, one}
-use Rattle.books.specs.Graphs.{Graph, Lawful}
+use Rattle.books.specs.Graphs.{Lawful}
 use Rattle.books.proofs.Sums.{ones_le}
-use Rattle.peel.specs.Sets.{Cards, Same, size, partners_in}
+use Rattle.peel.specs.Sets.{Same, partners_in}
 use Rattle.peel.specs.Lines.{below}
-use Rattle.peel.specs.Levels.{Rules, Table, at_least}
+use Rattle.peel.specs.Levels.{Rules, at_least}
 use Rattle.peel.specs.Peels.{peel, peel_cards, peel_links, LevelsUpTo}
 use Rattle.peel.proofs.Lines.{partners_same}
 use Rattle.peel.proofs.Charges.{handshake}

@@ -1,5 +1,5 @@
 -- A search between two peels, and how it goes on or ends.
-use Rattle.std.proofs.Common.{◌≡◌, ℕ, suc, ◌+◌, ◌-◌, ◌*◌, ◌<◌, ◌≤◌, Bool, true, false, leb, List, sym, refl, ap, ◌∙◌, subst, zero-add, arith}
+use Rattle.std.proofs.Common.{◌≡◌, ℕ, suc, ◌+◌, ◌*◌, ◌<◌, ◌≤◌, true, false, sym, ap, ◌∙◌, subst, zero-add, arith}
 use Rattle.books.specs.Graphs.{Graph, Lawful}
 use Rattle.peel.specs.declared.line.Line.{Line}
 use Rattle.peel.specs.Sets.{Cards, Same, size, links_in}

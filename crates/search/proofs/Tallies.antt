@@ -1,5 +1,5 @@
 -- Counting the cards of a set, and their partners in it, card by card.
-use Rattle.std.proofs.Common.{◌≡◌, ℕ, ◌+◌, ◌*◌, ◌/◌, ◌<◌, ◌≤◌, Bool, true, false, sym, refl, ap, ◌∙◌, subst, mul-le-mul, arith}
+use Rattle.std.proofs.Common.{◌≡◌, ℕ, ◌+◌, ◌*◌, ◌/◌, ◌≤◌, Bool, true, false, ap, ◌∙◌, mul-le-mul, arith}
 use Rattle.books.specs.Sums.{sum_to, one}
 use Rattle.books.specs.Graphs.{Graph, Lawful}
 use Rattle.books.proofs.Sums.{sum_more, sum_most, one_le}

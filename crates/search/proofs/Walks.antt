@@ -1,5 +1,5 @@
 -- Walks from partner to partner, which count those that are in a set.
-use Rattle.std.proofs.Common.{◌≡◌, ℕ, ◌+◌, ◌<◌, ◌≤◌, Bool, true, false, Some, None, sym, refl, ap, ◌∙◌, arith}
+use Rattle.std.proofs.Common.{◌≡◌, ℕ, ◌+◌, ◌≤◌, Bool, true, false, Some, None, sym, refl, ap, ◌∙◌, arith}
 use Rattle.books.specs.Sums.{sum_to, one, when}
 use Rattle.books.specs.Graphs.{Graph, weight}
 use Rattle.books.specs.Books.{next_partner}

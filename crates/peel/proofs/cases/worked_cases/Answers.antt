@@ -1,6 +1,6 @@
-use Rattle.std.proofs.Common.{◌≡◌, ℕ, ◌+◌, ◌*◌, ◌<◌, ◌≤◌, ◌⊎◌, refl, inl, inr, mul-le-mul_right, arith}
+use Rattle.std.proofs.Common.{ℕ, ◌+◌, ◌*◌, ◌<◌, ◌≤◌, refl, inl, inr, mul-le-mul_right, arith}
 use Rattle.std.proofs.lemmas.Bool.{cases_lt}
-use Rattle.peel.specs.Tolerances.{Next, Height, stands, falls}
+use Rattle.peel.specs.Tolerances.{Next, stands, falls}
 use Rattle.peel.proofs.cases.worked_cases.Goals as goal
 
 -- numbers that pass no test above d

@@ -1,4 +1,4 @@
-use Rattle.std.proofs.Common.{◌≡◌, ◌≤◌, length, ap, arith}
+use Rattle.std.proofs.Common.{◌≤◌, length, ap, arith}
 use Rattle.search.specs.Rows.{marked}
 use Rattle.search.proofs.Listings.{count}
 use Rattle.search.proofs.Finds.{Ran, too_short, finds, bounded, some_kept}

@@ -1,4 +1,3 @@
-use Rattle.std.proofs.Common.{◌≡◌, ◌≤◌, length}
 use Rattle.search.specs.Rows.{marked}
 use Rattle.search.proofs.Listings.{Written}
 use Rattle.search.proofs.group.write_cards.Given as goal

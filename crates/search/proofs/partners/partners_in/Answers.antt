@@ -1,4 +1,4 @@
-use Rattle.std.proofs.Common.{◌≡◌, ◌+◌, sym, ap, ◌∙◌, arith}
+use Rattle.std.proofs.Common.{sym, ◌∙◌, arith}
 use Rattle.books.proofs.Partners.{next_some}
 use Rattle.search.proofs.Walks.{walk_in, walk_out, walk_done}
 use Rattle.search.proofs.partners.partners_in.Goals as goal

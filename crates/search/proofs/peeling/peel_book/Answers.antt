@@ -1,6 +1,5 @@
-use Rattle.std.proofs.Common.{◌≡◌, ℕ, ◌*◌, ◌/◌, sym, refl, ap, ◌∙◌, arith}
-use Rattle.search.specs.Rows.{rules_of}
-use Rattle.search.proofs.Peelings.{Bettered, Peeled, peeling_start, better, peeling_next, peeled_all, peeled_empty, peeled_still}
+use Rattle.std.proofs.Common.{◌≡◌, ℕ, ◌*◌, ◌/◌, sym, refl, ◌∙◌, arith}
+use Rattle.search.proofs.Peelings.{Bettered, peeling_start, better, peeling_next, peeled_all, peeled_empty, peeled_still}
 use Rattle.search.proofs.peeling.peel_book.Goals as goal
 
 half : (x y : ℕ) → x ≡ 2 * y → x / 2 ≡ y

@@ -1,6 +1,5 @@
-use Rattle.std.proofs.Common.{◌≡◌, ℕ, ◌+◌, ◌<◌, ◌≤◌, sym, ap, ◌∙◌, subst, arith}
-use Rattle.search.specs.Rows.{rows, rules_of}
-use Rattle.search.proofs.Rounds.{MidRound, mid_start, mid_at, mid_pass, mid_drop, mid_stay, mid_cards, mid_ends, mid_levels, mid_counts}
+use Rattle.std.proofs.Common.{◌≡◌, ◌<◌, sym, arith}
+use Rattle.search.proofs.Rounds.{mid_start, mid_at, mid_pass, mid_drop, mid_stay, mid_cards, mid_ends, mid_levels, mid_counts}
 use Rattle.search.proofs.round.round.Goals as goal
 use Rattle.search.proofs.round.round.Goals.{then-levels-u+then-not-below, then-levels-u+else-not-below, else-levels-u}
 

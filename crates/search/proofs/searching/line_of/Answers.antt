@@ -1,4 +1,4 @@
-use Rattle.std.proofs.Common.{◌≡◌, ℕ, ◌+◌, ◌*◌, ◌/◌, ◌<◌, ◌≤◌, sym, ap, ◌∙◌, arith}
+use Rattle.std.proofs.Common.{◌≡◌, ◌∙◌, arith}
 use Rattle.search.specs.Rows.{marked}
 use Rattle.search.proofs.Tallies.{ends_few, set_in, set_out, set_line}
 use Rattle.books.proofs.Sums.{ones_le}

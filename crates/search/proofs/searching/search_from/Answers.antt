@@ -1,14 +1,9 @@
-use Rattle.std.proofs.Common.{◌≡◌, ℕ, ◌+◌, ◌-◌, ◌*◌, ◌<◌, ◌≤◌, sym, refl, ap, ◌∙◌, subst, mul-le-mul, arith}
-use Rattle.books.specs.Graphs.{Graph}
+use Rattle.std.proofs.Common.{◌≡◌, ℕ, ◌-◌, ◌*◌, ◌<◌, ◌≤◌, sym, refl, subst, mul-le-mul, arith}
 use Rattle.peel.specs.Tolerances.{Height}
-use Rattle.peel.specs.Sets.{Same}
-use Rattle.peel.specs.Levels.{at_least, rules}
-use Rattle.peel.specs.Searches.{Search}
 use Rattle.peel.proofs.Heights.{height_pos}
-use Rattle.peel.proofs.Searches.{rank, rank_le, search_sound}
+use Rattle.peel.proofs.Searches.{rank_le, search_sound}
 use Rattle.search.specs.Rows.{rows, marked}
-use Rattle.search.specs.Outcomes.{outcome}
-use Rattle.search.proofs.Searchings.{Searching, OnePeel, searching_start, searching_few, searching_ends, searching_grows, searching_again}
+use Rattle.search.proofs.Searchings.{searching_start, searching_few, searching_ends, searching_grows, searching_again}
 use Rattle.search.proofs.searching.search_from.Goals as goal
 
 -- a height of as many cards as the book has

@@ -1,5 +1,5 @@
-use Rattle.std.proofs.Common.{◌≡◌, ℕ, suc, ◌+◌, ◌-◌, ◌*◌, ◌/◌, ◌<◌, ◌≤◌, sym, subst, add-zero, mul-le-mul, mul-pos, zero-add, arith}
-use Rattle.peel.specs.Tolerances.{Height, Next, stands, falls}
+use Rattle.std.proofs.Common.{◌≡◌, ℕ, suc, ◌+◌, ◌≤◌, sym, subst, add-zero, mul-le-mul, mul-pos, zero-add, arith}
+use Rattle.peel.specs.Tolerances.{Height, stands, falls}
 use Rattle.peel.proofs.Heights.{next_is, next_less, height_one}
 use Rattle.peel.proofs.tolerance.Tolerance.height.Goals as goal
 

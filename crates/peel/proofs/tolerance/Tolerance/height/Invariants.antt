@@ -1,4 +1,4 @@
-use Rattle.std.proofs.Common.{◌≡◌, ℕ, ◌+◌, ◌≤◌}
+use Rattle.std.proofs.Common.{ℕ, ◌+◌, ◌≤◌}
 use Rattle.peel.specs.Tolerances.{Height}
 use Rattle.peel.proofs.tolerance.Tolerance.height.Given as goal
 
