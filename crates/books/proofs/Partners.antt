@@ -1,8 +1,8 @@
--- What an answer of the next_partner question says, and walks from partner to partner.
+-- What an answer of the next-partner question says, and walks from partner to partner.
 use Rattle.std.proofs.Common.{◌≡◌, ℕ, zero, suc, ◌+◌, ◌-◌, ◌<◌, ◌≤◌, Bool, true, false, cond, eqb, Some, None, Option, sym, refl, ap, ◌∙◌, subst, inl, inr, ⊎_elim, arith}
 use Rattle.std.proofs.lemmas.Bool.{cases_eq, cases_Bool, cases_order, eq-eqb, ne_eqb, cond-true, cond-false, both_ways}
 use Rattle.books.specs.Graphs.{Graph, Lawful}
-use Rattle.books.specs.Books.{first_from, next_partner, Lowest, LowestPartner}
+use Rattle.books.specs.Books.{first_from, next_partner, LowestPartner}
 
 pub first_step : (p : ℕ → Bool) (n w : ℕ) → w < n → first_from p (n - w) w ≡ cond (p w) (Some w) (first_from p (n - (w + 1)) (w + 1))
 first_step p n w h = let e : n - w ≡ suc (n - (w + 1)) = omega arith in rw e
@@ -71,6 +71,11 @@ next_lowest g l u w None h = λ v a. elim (cases_Bool (g.linked u v)) [
   | inr f ↦ f
   | inl y ↦ absurd (both_ways _ (next_none g u w h v a (l.inside v u (l.even v u ∙ y))) y)
 ]
+
+-- r is the lowest number from w on that passes the test, or it is none, and no such number passes
+abbrev pub Lowest : (ℕ → Bool) → ℕ → Option ℕ → Type 0
+Lowest p w (Some x) = (w ≤ x) × (p x ≡ true) × ((v : ℕ) → w ≤ v → v < x → p v ≡ false)
+Lowest p w None = (v : ℕ) → w ≤ v → p v ≡ false
 
 -- no two answers are both the lowest
 lowest_same : (p : ℕ → Bool) (w : ℕ) (r q : Option ℕ) → Lowest p w r → Lowest p w q → r ≡ q

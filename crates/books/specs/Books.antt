@@ -22,11 +22,6 @@ first_from p (suc k) w = cond (p w) (Some w) (first_from p k (w + 1))
 abbrev pub next_partner : Graph → ℕ → ℕ → Option ℕ
 next_partner g u w = first_from (g.linked u) (g.cards - w) w
 
--- r is the lowest number from w on that passes the test, or it is none, and no such number passes
-abbrev pub Lowest : (ℕ → Bool) → ℕ → Option ℕ → Type 0
-Lowest p w (Some x) = (w ≤ x) × (p x ≡ true) × ((v : ℕ) → w ≤ v → v < x → p v ≡ false)
-Lowest p w None = (v : ℕ) → w ≤ v → p v ≡ false
-
 -- the answer r is a partner of u that is not below w, with no partner between; or it is none, and u has no such partner
 abbrev pub LowestPartner : Graph → ℕ → ℕ → Option ℕ → Type 0
 LowestPartner g u w (Some x) = (w ≤ x) × (g.linked u x ≡ true) × ((v : ℕ) → w ≤ v → v < x → g.linked u v ≡ false)

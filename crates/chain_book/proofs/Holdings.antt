@@ -1,7 +1,7 @@
 -- What some records hold, and what one more or one less of them makes of that.
 use Rattle.std.proofs.Common.{◌≡◌, ℕ, suc, ◌<◌, ◌≤◌, Bool, true, false, cond, ◌||◌, eqb, ltb, List, [], ◌∷◌, ◌++◌, Some, None, Option, sym, refl, ap, ◌∙◌, subst, inl, inr, arith}
 use Rattle.std.proofs.lemmas.Bool.{ltb-true, ltb-false, eqb-true, eqb-false, eq-eqb, ne_eqb, cases_eq, cases_Bool, or_from, or_left, or_parts, cond-true, cond-false}
-use Rattle.books.specs.Books.{Lowest}
+use Rattle.books.proofs.Partners.{Lowest}
 use Rattle.chain_book.specs.Meaning.{holds}
 use Rattle.chain_book.specs.Order.{In, Ascend}
 use Rattle.chain_book.specs.Steps.{lower, onward, first_partner}

@@ -2,7 +2,7 @@
 use Rattle.std.proofs.Common.{◌≡◌, ℕ, ◌<◌, ◌≤◌, Bool, true, false, cond, ◌&&◌, eqb, ltb, List, [], ◌∷◌, ◌++◌, length, set, sym, refl, ap, ◌∙◌, subst, inl, inr, arith}
 use Rattle.std.proofs.lemmas.List.{get_or-set_same, get_or-set_other, length-set}
 use Rattle.std.proofs.lemmas.Bool.{both_ways, eq-eqb, ne_eqb, lt-ltb, le-ltb, cases_eq, cases_lt, and_left}
-use Rattle.books.specs.Books.{Lowest}
+use Rattle.books.proofs.Partners.{Lowest}
 use Rattle.chain_book.specs.declared.record.Record.{Record}
 use Rattle.chain_book.specs.Records.{blank, next_of, partner_of, chain, free_records}
 use Rattle.chain_book.specs.Meaning.{holds, chain_linked}

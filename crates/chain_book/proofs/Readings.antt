@@ -3,8 +3,8 @@ use Rattle.std.proofs.Common.{◌≡◌, ℕ, ◌<◌, ◌≤◌, Bool, false, l
 use mathlib.Core.Path.{fun_ext}
 use Rattle.std.proofs.lemmas.List.{nil_from_length}
 use Rattle.std.proofs.lemmas.Bool.{le-ltb, and_left, and_right}
-use Rattle.books.specs.Books.{Lowest, next_partner}
-use Rattle.books.proofs.Partners.{lowest_next}
+use Rattle.books.specs.Books.{next_partner}
+use Rattle.books.proofs.Partners.{Lowest, lowest_next}
 use Rattle.chain_book.specs.declared.record.Record.{Record}
 use Rattle.chain_book.specs.Records.{partner_of, chain}
 use Rattle.chain_book.specs.Meaning.{holds, chain_linked, chain_graph}

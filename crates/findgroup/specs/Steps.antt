@@ -9,7 +9,12 @@ use Rattle.link_text.specs.declared.fault.Fault.{Fault}
 use Rattle.link_text.specs.declared.line.Setup.{Setup}
 use Rattle.link_text.specs.Lines.{link_in}
 use Rattle.findgroup.specs.declared.trouble.Trouble.{Trouble}
-use Rattle.findgroup.specs.declared.trouble.Trouble.TheVariants.{BadSetup, BadLink}
+use Rattle.findgroup.specs.declared.trouble.Trouble.TheVariants.{BadSetup, BadLink, Input}
+
+-- the trouble is that the first line of the input cannot be read
+abbrev pub IsFirstUnread : Trouble → Type 0
+IsFirstUnread (Input line error) = line ≡ 1
+IsFirstUnread _ = ⊥
 
 -- the setup of the first line, or the trouble that it ends the program with
 abbrev pub setup_read : Result Setup Fault → Result Setup Trouble

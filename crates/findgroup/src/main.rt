@@ -21,11 +21,11 @@
 mod found;
 mod trouble;
 
-ghost use Rattle.std.specs.Prelude.{◌≡◌, length, IfOk};
+ghost use Rattle.std.specs.Prelude.{◌≡◌, length, IfErr, IfOk};
 ghost use Rattle.std.specs.Result.{result_err};
 ghost use Rattle.books.specs.Books.{Book};
 ghost use Rattle.link_text.specs.Lines.{link_in, setup_in};
-ghost use Rattle.findgroup.specs.Steps.{setup_read, setup_refusal, after_line, Goes};
+ghost use Rattle.findgroup.specs.Steps.{IsFirstUnread, setup_read, setup_refusal, after_line, Goes};
 
 use bit_book::{BitBook, check};
 use books::{ReadingBook, Refusal, WritingBook};
@@ -61,7 +61,9 @@ fn run(rt: &HostRuntime) -> Result<(), Trouble> {
 }
 
 // The lines of standard input. Where there is no memory for them, the first cannot be read.
-fn input(rt: &HostRuntime) -> Result<Input, Trouble> {
+fn input(rt: &HostRuntime) -> Result<Input, Trouble>
+    ensures { IfErr result IsFirstUnread }
+{
     match BufReader::new(rt.alloc(), rt.stdin()) {
         Ok(reader) => Ok(reader.lines(rt.alloc())),
         Err(error) => Err(Trouble::Input { line: 1, error }),
