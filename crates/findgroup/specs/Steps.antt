@@ -9,12 +9,17 @@ use Rattle.link_text.specs.declared.fault.Fault.{Fault}
 use Rattle.link_text.specs.declared.line.Setup.{Setup}
 use Rattle.link_text.specs.Lines.{link_in}
 use Rattle.findgroup.specs.declared.trouble.Trouble.{Trouble}
-use Rattle.findgroup.specs.declared.trouble.Trouble.TheVariants.{BadSetup, BadLink, Input}
+use Rattle.findgroup.specs.declared.trouble.Trouble.TheVariants.{BadSetup, BadLink, Input, Output}
 
 -- the trouble is that the first line of the input cannot be read
 abbrev pub IsFirstUnread : Trouble → Type 0
 IsFirstUnread (Input line error) = line ≡ 1
 IsFirstUnread _ = ⊥
+
+-- the trouble is that something could not be written
+abbrev pub IsUnwritten : Trouble → Type 0
+IsUnwritten (Output error) = Unit {0}
+IsUnwritten _ = ⊥
 
 -- the setup of the first line, or the trouble that it ends the program with
 abbrev pub setup_read : Result Setup Fault → Result Setup Trouble

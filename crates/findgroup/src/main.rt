@@ -25,7 +25,7 @@ ghost use Rattle.std.specs.Prelude.{◌≡◌, length, IfErr, IfOk};
 ghost use Rattle.std.specs.Result.{result_err};
 ghost use Rattle.books.specs.Books.{Book};
 ghost use Rattle.link_text.specs.Lines.{link_in, setup_in};
-ghost use Rattle.findgroup.specs.Steps.{IsFirstUnread, setup_read, setup_refusal, after_line, Goes};
+ghost use Rattle.findgroup.specs.Steps.{IsFirstUnread, IsUnwritten, setup_read, setup_refusal, after_line, Goes};
 
 use bit_book::{BitBook, check};
 use books::{ReadingBook, Refusal, WritingBook};
@@ -143,6 +143,7 @@ fn put_line<B: WritingBook>(
     ensures links { (B.ReadingBook.book book.new).graph ≡ after_line (B.ReadingBook.book book.old).graph (B.WritingBook.room book.old) line.now }
     ensures places { B.WritingBook.room book.new ≡ B.WritingBook.room book.old }
     ensures answer { Goes number (B.ReadingBook.book book.old).graph (B.WritingBook.room book.old) (link_in line.now) result }
+    ensures output { IfOk (link_in line.now) (λ _. IfErr result IsUnwritten) }
 {
     let (u, v) = match read_link(line) {
         Ok(link) => link,

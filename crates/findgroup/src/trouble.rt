@@ -1,4 +1,7 @@
 // What ends the program without a result.
+ghost use Rattle.std.specs.Prelude.{◌≡◌};
+ghost use Rattle.findgroup.specs.declared.trouble.Trouble.TheVariants.{Output, Refused};
+
 use books::Refusal;
 use link_text::{Fault, words_of};
 use std::{fmt, io};
@@ -18,12 +21,16 @@ pub enum Trouble {
 }
 
 impl From<Refusal> for Trouble {
+    ghost from_gives = { λ refusal trouble. trouble ≡ Refused refusal };
+
     fn from(refusal: Refusal) -> Trouble {
         Trouble::Refused(refusal)
     }
 }
 
 impl From<io::Error> for Trouble {
+    ghost from_gives = { λ error trouble. trouble ≡ Output error };
+
     fn from(error: io::Error) -> Trouble {
         Trouble::Output(error)
     }
