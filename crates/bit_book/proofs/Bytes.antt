@@ -2,7 +2,7 @@
 use Rattle.std.proofs.Common.{◌≡◌, ℕ, zero, suc, ◌+◌, ◌-◌, ◌*◌, ◌/◌, ◌%◌, ◌^◌, ◌<◌, false, not, eqb, ◌⊎◌, List, length, get_or, drop, replicate, sym, refl, ap, ◌∙◌, subst, inl, inr, ⊎_elim, arith, get_or-set_other, get_or-set_same}
 use native.Mathlib.Nat.{zero-div, div_self, div-eq_of_lt, pow-succ', mul-mod_right}
 use lib.Bits.{bit_xor, xor_shr, xor_mod}
-use Rattle.std.proofs.lemmas.Nat.{pow_pos, pow-add, shl-shr, pow_below, one_shl, mod_below, div_below}
+use Rattle.std.proofs.lemmas.Nat.{pow_pos, pow-add, shl-shr, pow_below, mod_below, div_below}
 use Rattle.std.proofs.lemmas.List.{get_or_append_left, get_or-replicate, length-replicate}
 use Rattle.std.proofs.lemmas.Bool.{cases_eq, cases_order}
 use Rattle.bit_book.specs.Layout.{bit_at, cleared, turned}
@@ -53,10 +53,6 @@ digit_turned x m = rw (xor_digit x (2 ^ m) m, pow_same m) (xor_one (x / 2 ^ m % 
 
 digit_kept : (x m j : ℕ) → (j ≡ m → ⊥) → bit_xor x (2 ^ m) / 2 ^ j % 2 ≡ x / 2 ^ j % 2
 digit_kept x m j ne = rw (xor_digit x (2 ^ m) j, pow_other m j ne) (xor_zero (x / 2 ^ j % 2) (mod_below (x / 2 ^ j) 2 (omega arith)))
-
--- `1 << (k % 8)` loses nothing in a byte
-pub shifted : (k : ℕ) → 1 * 2 ^ (k % 8) % 256 ≡ 2 ^ (k % 8)
-shifted k = one_shl (k % 8) 8 (mod_below k 8 (omega arith))
 
 pub turned_here : (xs : List ℕ) (k : ℕ) → k / 8 < length xs → bit_at (turned xs k) k ≡ not (bit_at xs k)
 turned_here xs k h =

@@ -1,10 +1,11 @@
 -- The bits of pairs, and what a turned bit does to the links.
 use Rattle.std.proofs.Common.{◌≡◌, ℕ, suc, ◌+◌, ◌/◌, ◌<◌, ◌≤◌, false, cond, not, ◌&&◌, ltb, List, length, sym, ap, ◌∙◌, ⊎_elim, arith}
 use Rattle.std.proofs.lemmas.Nat.{div_below}
+use Rattle.std.proofs.Math.Bool.{or_comm}
 use Rattle.std.proofs.lemmas.Bool.{cases_lt, cases_order, lt-ltb, le-ltb, or_from, and_left, and_right}
 use Rattle.books.specs.Graphs.{same_pair}
 use Rattle.books.proofs.Sums.{tri, tri_is, tri_le}
-use Rattle.books.proofs.Links.{Ends, or_turn, or_none, same_straight, same_crossed, same_other, same_swap, pair_cases}
+use Rattle.books.proofs.Links.{Ends, or_none, same_straight, same_crossed, same_other, same_swap, pair_cases}
 use Rattle.bit_book.specs.Layout.{pairs, pair_bit, bit_of, needed, bit_at, cleared, turned}
 use Rattle.bit_book.specs.Meaning.{low_linked, bit_linked, bit_graph}
 use Rattle.bit_book.proofs.Bytes.{bit_cleared, turned_here, turned_others}
@@ -68,7 +69,7 @@ turned_low n xs a b h k m x y =
     ⊎_elim
     (λ (e : (x ≡ a) × (y ≡ b)). rw (e.0, e.1, same_straight a b) here)
     (λ o. ⊎_elim
-    (λ (e : (x ≡ b) × (y ≡ a)). rw (e.0, e.1, same_crossed a b) (or_turn (low_linked n ys b a) (low_linked n ys a b) ∙ here))
+    (λ (e : (x ≡ b) × (y ≡ a)). rw (e.0, e.1, same_crossed a b) (or_comm (low_linked n ys b a) (low_linked n ys a b) ∙ here))
     (λ (e : ((x ≡ a) × (y ≡ b) → ⊥) × ((x ≡ b) × (y ≡ a) → ⊥)).
     rw (same_other a b x y e.0 e.1, low_kept n xs a b x y h inn e.0, low_kept n xs a b y x h inn (λ z. e.1 (z.1, z.0)))) o)
     (pair_cases a b x y)
@@ -89,7 +90,7 @@ turned_linked n xs u v en m x y =
     (λ (l : v ≤ u).
     let ne = en.differ in
     let lt : v < u = omega arith in
-    rw (of_high u v l, same_swap u v x y, or_turn (low_linked n xs u v) (low_linked n xs v u)) (turned_low n xs v u lt en.first m x y))
+    rw (of_high u v l, same_swap u v x y, or_comm (low_linked n xs u v) (low_linked n xs v u)) (turned_low n xs v u lt en.first m x y))
     (cases_lt u v)
 
 -- a cleared memory holds no link

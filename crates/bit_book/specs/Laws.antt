@@ -1,10 +1,10 @@
--- A bit book's memory, whatever its bytes, means a lawful book.
+-- Whatever its bytes are, a bit book's memory means a book.
 use Rattle.std.specs.Prelude.{◌≡◌, ℕ, ◌<◌, ◌≤◌, true, false, ◌&&◌, List, nat_lt}
 use Rattle.std.proofs.Common.{⊎_elim, arith}
+use Rattle.std.proofs.Math.Bool.{or_comm}
 use Rattle.std.proofs.lemmas.Bool.{ltb-true, le-ltb, or_cases, and_parts, or_from, and_left}
 use Rattle.books.specs.Graphs.{Lawful}
-use Rattle.books.specs.Books.{Book}
-use Rattle.books.proofs.Links.{or_turn}
+use Rattle.books.specs.Books.{IsBook}
 use Rattle.bit_book.specs.Layout.{pair_bit, bit_at}
 use Rattle.bit_book.specs.Meaning.{low_linked, bit_linked, bit_graph}
 
@@ -28,11 +28,11 @@ bit_inside n xs u v h =
 -- so the links are those of a book
 pub bit_lawful : (n : ℕ) (xs : List ℕ) → Lawful (bit_graph n xs)
 bit_lawful n xs = record {
-  even = λ u v. or_turn (low_linked n xs u v) (low_linked n xs v u);
+  even = λ u v. or_comm (low_linked n xs u v) (low_linked n xs v u);
   apart = λ u. or_from (low_linked n xs u u) (low_linked n xs u u) (low_apart n xs u) (low_apart n xs u);
   inside = bit_inside n xs;
 }
 
--- the book that n cards and the bytes are
-abbrev pub bit_book : (n : ℕ) (xs : List ℕ) → 1 ≤ n → n ≤ 1024 → Book
-bit_book n xs l m = record { graph = bit_graph n xs; lawful = bit_lawful n xs; least = l; most = m }
+-- from 1 to 1,024 cards, and the links that the bytes hold, are a book's
+pub bit_sound : (n : ℕ) (xs : List ℕ) → 1 ≤ n → n ≤ 1024 → IsBook (bit_graph n xs)
+bit_sound n xs l m = record { lawful = bit_lawful n xs; least = l; most = m }

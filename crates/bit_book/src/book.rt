@@ -1,14 +1,15 @@
 // The bit book itself: its making, its questions and its changes.
-ghost use Rattle.std.specs.Prelude.{◌≡◌, ℕ, ◌*◌, ◌<◌, ◌≤◌, false, length};
+ghost use Rattle.std.specs.Prelude.{◌≡◌, ℕ, ◌*◌, ◌<◌, ◌≤◌, ◌≢◌, false, length, Err};
 ghost use Rattle.std.specs.Result.{result_err};
+ghost use Rattle.books.specs.declared.refusal.Refusal.TheVariants.{Full};
 ghost use Rattle.books.specs.Graphs.{link_count, with_link, without_link};
 ghost use Rattle.books.specs.Refusals.{put_refusal, take_refusal, unless_refused};
 ghost use Rattle.bit_book.specs.Layout.{pairs, bit_of, needed, cards_made, bit_at, cleared, turned};
 ghost use Rattle.bit_book.specs.Meaning.{bit_graph, bit_linked, check_refusal};
-ghost use Rattle.bit_book.specs.Laws.{bit_book};
+ghost use Rattle.bit_book.specs.Laws.{bit_sound};
 
-use super::layout::{bytes_for, cards_for, clear, is_set, pair_bit, suitable};
-use books::{ReadingBook, Refusal, WritingBook};
+use super::layout::{bytes_for, cards_for, clear, is_set, pair_bit, suitable, turn};
+use books::{ReadingBook, Refusal, WritingBook, may_put, may_take};
 
 #[derive(Drop)]
 pub struct BitBook<'a> {
@@ -25,7 +26,8 @@ pub struct BitBook<'a> {
 }
 
 // Whether a book of so many cards can stand on this memory: `Unsuitable` where the number of cards is
-// not from 1 to 1,024, or the memory is too short to have a bit for each pair of them.
+// not from 1 to 1,024, or the memory is too short to have a bit for each pair of them. The chain book's `check` asks
+// another rule, of records; one function over both would take the rule as a parameter, and be no plainer.
 pub fn check(cards: u16, memory: &[u8]) -> Result<(), Refusal>
     ensures { result_err result ≡ check_refusal cards (length memory.now) }
 {
@@ -57,19 +59,10 @@ impl<'a> BitBook<'a> {
     }
 }
 
-impl BitBook<'_> {
-    fn holds(&self, u: u16, v: u16) -> bool
-        ensures { result ≡ bit_linked self.now.cards self.now.memory.now u v }
-    {
-        if u == v || u >= self.cards || v >= self.cards {
-            return false;
-        }
-        is_set(self.memory, pair_bit(u, v))
-    }
-}
-
 impl ReadingBook for BitBook<'_> {
-    ghost book = { λ b. bit_book b.cards b.memory.now b.least b.most };
+    ghost graph = { λ b. bit_graph b.cards b.memory.now };
+
+    ghost sound = { λ b. bit_sound b.cards b.memory.now b.least b.most };
 
     fn cards(&self) -> u16 {
         self.cards
@@ -80,7 +73,10 @@ impl ReadingBook for BitBook<'_> {
     }
 
     fn linked(&self, u: u16, v: u16) -> bool {
-        self.holds(u, v)
+        if u == v || u >= self.cards || v >= self.cards {
+            return false;
+        }
+        is_set(self.memory, pair_bit(u, v))
     }
 }
 
@@ -88,31 +84,22 @@ impl WritingBook for BitBook<'_> {
     ghost room = { λ b. pairs b.cards };
 
     fn places(&self) -> u32 {
-        let n = self.cards as u32;
+        let n = u32::from(self.cards);
         n * (n - 1) / 2
     }
 
-    // Of the memory, only the bit of the pair changes, and nothing where it refuses.
+    // Of the memory, only the bit of the pair changes, and nothing where it refuses. A pair that is not linked leaves
+    // a place, so it is never refused for want of one.
     fn put(&mut self, u: u16, v: u16) -> Result<(), Refusal>
         ensures answer { result_err result ≡ put_refusal (bit_graph self.old.cards self.old.memory.now) (pairs self.old.cards) u v }
+        ensures room { result ≢ Err Full }
         ensures links { bit_graph self.new.cards self.new.memory.now ≡ unless_refused (result_err result) (bit_graph self.old.cards self.old.memory.now) (with_link (bit_graph self.old.cards self.old.memory.now) u v) }
         ensures places { pairs self.new.cards ≡ pairs self.old.cards }
         ensures memory { self.new.memory.now ≡ unless_refused (result_err result) self.old.memory.now (turned self.old.memory.now (bit_of u v)) }
         ensures lent { self.new.memory.ghost_name ≡ self.old.memory.ghost_name }
     {
-        if u >= self.cards || v >= self.cards {
-            return Err(Refusal::NoSuchCard);
-        }
-        if u == v {
-            return Err(Refusal::SameCard);
-        }
-        if self.holds(u, v) {
-            return Err(Refusal::LinkHeld);
-        }
-        // a pair that is not linked leaves a place, so the book is never full here
-        let k = pair_bit(u, v);
-        let i = k / 8;
-        self.memory[i] ^= 1 << (k % 8);
+        may_put(self, self.places(), u, v)?;
+        turn(self.memory, pair_bit(u, v));
         self.links += 1;
         Ok(())
     }
@@ -125,18 +112,8 @@ impl WritingBook for BitBook<'_> {
         ensures memory { self.new.memory.now ≡ unless_refused (result_err result) self.old.memory.now (turned self.old.memory.now (bit_of u v)) }
         ensures lent { self.new.memory.ghost_name ≡ self.old.memory.ghost_name }
     {
-        if u >= self.cards || v >= self.cards {
-            return Err(Refusal::NoSuchCard);
-        }
-        if u == v {
-            return Err(Refusal::SameCard);
-        }
-        if !self.holds(u, v) {
-            return Err(Refusal::LinkMissing);
-        }
-        let k = pair_bit(u, v);
-        let i = k / 8;
-        self.memory[i] ^= 1 << (k % 8);
+        may_take(self, u, v)?;
+        turn(self.memory, pair_bit(u, v));
         self.links -= 1;
         Ok(())
     }

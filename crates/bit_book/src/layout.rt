@@ -1,13 +1,15 @@
 // Where each pair of cards has its bit, and how much memory the bits take.
 ghost use Rattle.std.specs.Prelude.{◌≡◌, ◌/◌, ◌<◌, ◌≤◌, length, ◌≢◌};
-ghost use Rattle.bit_book.specs.Layout.{pair_bit, bit_of, needed, suits, cards_made, bit_at, cleared};
+ghost use Rattle.bit_book.specs.Layout.{pair_bit, bit_of, needed, suits, cards_made, bit_at, cleared, turned};
+
+use books::cards_suit;
 
 // The bytes that so many cards need.
 pub(crate) fn bytes_for(cards: u16) -> usize
     requires { 1 ≤ cards }
     ensures { result ≡ needed cards }
 {
-    let n = cards as usize;
+    let n = usize::from(cards);
     (n * (n - 1) / 2).div_ceil(8)
 }
 
@@ -15,7 +17,7 @@ pub(crate) fn bytes_for(cards: u16) -> usize
 pub(crate) fn suitable(cards: u16, bytes: usize) -> bool
     ensures { result ≡ suits cards bytes }
 {
-    cards >= 1 && cards <= 1024 && bytes_for(cards) <= bytes
+    cards_suit(cards) && bytes_for(cards) <= bytes
 }
 
 // So many cards where a book of them can stand on so many bytes, else one.
@@ -33,8 +35,8 @@ fn low_bit(u: u16, v: u16) -> usize
     requires { u < v }
     ensures { result ≡ pair_bit u v }
 {
-    let high = v as usize;
-    high * (high - 1) / 2 + u as usize
+    let high = usize::from(v);
+    high * (high - 1) / 2 + usize::from(u)
 }
 
 // The bit of the pair of u and v, in either order.
@@ -53,12 +55,18 @@ pub(crate) fn is_set(memory: &[u8], k: usize) -> bool
     (memory[k / 8] >> (k % 8)) % 2 == 1
 }
 
+// Turns bit k over.
+pub(crate) fn turn(memory: &mut [u8], k: usize)
+    requires { k / 8 < length memory.old }
+    ensures { memory.new ≡ turned memory.old k }
+{
+    memory[k / 8] ^= 1 << (k % 8);
+}
+
 // Makes so many bytes 0, from the first on, and leaves the others.
 pub(crate) fn clear(memory: &mut [u8], bytes: usize)
     requires { bytes ≤ length memory.old }
     ensures { memory.new ≡ cleared bytes memory.old }
 {
-    for i in 0..bytes {
-        memory[i] = 0;
-    }
+    memory[..bytes].fill(0);
 }

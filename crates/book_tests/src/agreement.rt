@@ -1,105 +1,123 @@
 // The chain book beside the bit book: the same steps on both, and every answer compared after each.
-use super::steps::{Step, done};
+ghost use Rattle.std.specs.Prelude.{◌≤◌};
+ghost use Rattle.std.specs.Iterator.{IsFinite};
+
+use super::steps::{OLD, Step};
 use bit_book::BitBook;
-use books::{ReadingBook, WritingBook};
-use chain_book::{ChainBook, Record};
+use books::{ReadingBook, Refusal, WritingBook};
+use chain_book::ChainBook;
+use dice::Dice;
 use std::process::Abort;
 
-const OLD: Record = Record {
-    partner: 7777,
-    next: 7777,
-};
+// A chain book and a bit book that are given the same steps.
+#[derive(Drop)]
+struct Both<A, B> {
+    chains: A,
+    bits: B,
+}
 
-// Whether both books have the same cards and links, and give the same answers about every card, and about two
-// numbers that are none.
-fn agree<A: ReadingBook, B: ReadingBook>(a: &A, b: &B) -> bool {
-    if a.cards() != b.cards() || a.links() != b.links() {
-        return false;
+impl<A: WritingBook, B: WritingBook> Both<A, B> {
+    // Whether both have the same cards and links, and give the same answers about every card, and about two numbers
+    // that are none.
+    fn agree(&self) -> bool {
+        let numbers = self.chains.cards() + 2;
+        self.chains.cards() == self.bits.cards()
+            && self.chains.links() == self.bits.links()
+            && (0..numbers).all(|u| (0..numbers).all(|v| self.agree_on(u, v)))
     }
-    for u in 0..a.cards() + 2 {
-        if !agree_on(a, b, u) {
-            return false;
+
+    fn agree_on(&self, u: u16, v: u16) -> bool {
+        self.chains.linked(u, v) == self.bits.linked(u, v)
+            && self.chains.next_partner(u, v) == self.bits.next_partner(u, v)
+    }
+
+    // Does the step on both, and answers what came of it. They answer alike, but that the chain book may be full: then
+    // it holds as many links as it has places, and the bit book is left as it is.
+    fn step(&mut self, rt: &impl Abort, step: Step) -> Result<(), Refusal> {
+        let answer = step.apply(&mut self.chains);
+        if answer == Err(Refusal::Full) {
+            assert_eq!(rt; self.chains.links(), self.chains.places());
+        } else {
+            assert_eq!(rt; step.apply(&mut self.bits), answer);
         }
+        assert!(rt; self.agree());
+        answer
     }
-    true
-}
 
-fn agree_on<A: ReadingBook, B: ReadingBook>(a: &A, b: &B, u: u16) -> bool {
-    for v in 0..a.cards() + 2 {
-        if a.linked(u, v) != b.linked(u, v) || a.next_partner(u, v) != b.next_partner(u, v) {
-            return false;
-        }
-    }
-    true
-}
-
-// Does the step on both, and answers its refusal. They answer alike, but that the chain book may be full: then it
-// holds as many links as it has places, and the bit book is left as it is.
-fn step_both<A: WritingBook, B: WritingBook>(
-    rt: &impl Abort,
-    chains: &mut A,
-    bits: &mut B,
-    step: Step,
-) -> Option<u8> {
-    let answer = done(chains, step);
-    if answer == Some(13) {
-        assert_eq!(rt; chains.links(), chains.places());
-    } else {
-        assert_eq!(rt; done(bits, step), answer);
-    }
-    assert!(rt; agree(chains, bits));
-    answer
-}
-
-// Puts every pair in, the lower card first, in ascending order, and answers how many were done.
-fn fill_up<A: WritingBook, B: WritingBook>(rt: &impl Abort, chains: &mut A, bits: &mut B) -> u32 {
-    let mut count: u32 = 0;
-    for u in 0..chains.cards() {
-        for v in u + 1..chains.cards() {
-            if step_both(rt, chains, bits, Step::Put(u, v)).is_none() {
+    // Does each of the steps on both, and answers how many were done.
+    fn count_done<I: Iterator<Item = Step> + Drop>(&mut self, rt: &impl Abort, steps: I) -> u32
+        requires can { I.can_next steps }
+        requires ends { IsFinite (I.remaining steps) }
+    {
+        // by hand, since each step changes the books
+        let mut count: u32 = 0;
+        for step in steps {
+            if self.step(rt, step).is_ok() {
                 count = count.wrapping_add(1);
             }
         }
+        count
     }
-    count
-}
 
-// The same in descending order, the higher card first.
-fn fill_down<A: WritingBook, B: WritingBook>(rt: &impl Abort, chains: &mut A, bits: &mut B) -> u32 {
-    let mut count: u32 = 0;
-    for u in (0..chains.cards()).rev() {
-        for v in (0..u).rev() {
-            if step_both(rt, chains, bits, Step::Put(u, v)).is_none() {
-                count = count.wrapping_add(1);
-            }
+    // Puts every pair in, the lower card first, in ascending order, and answers how many were done.
+    fn fill_up(&mut self, rt: &impl Abort) -> u32 {
+        let n = self.chains.cards();
+        // past the first number of `u..n` are those above u
+        self.count_done(
+            rt,
+            (0..n).flat_map(move |u| (u..n).skip(1).map(move |v| Step::Put(u, v))),
+        )
+    }
+
+    // The same in descending order, the higher card first.
+    fn fill_down(&mut self, rt: &impl Abort) -> u32 {
+        let n = self.chains.cards();
+        self.count_done(
+            rt,
+            (0..n)
+                .rev()
+                .flat_map(|u| (0..u).rev().map(move |v| Step::Put(u, v))),
+        )
+    }
+
+    // Takes every pair out, in ascending order.
+    fn empty(&mut self, rt: &impl Abort) -> u32 {
+        let n = self.chains.cards();
+        self.count_done(
+            rt,
+            (0..n).flat_map(|u| (0..u).map(move |v| Step::Take(v, u))),
+        )
+    }
+
+    // Does so many random steps on both.
+    fn mix(&mut self, rt: &impl Abort, steps: u32, seed: u32) {
+        let mut dice = Dice::new(seed);
+        for _ in 0..steps {
+            let step = random_step(dice.roll() >> 8, self.chains.cards());
+            let _ = self.step(rt, step);
         }
     }
-    count
-}
 
-// Takes every pair out, in ascending order.
-fn empty<A: WritingBook, B: WritingBook>(rt: &impl Abort, chains: &mut A, bits: &mut B) -> u32 {
-    let mut count: u32 = 0;
-    for u in 0..chains.cards() {
-        for v in 0..u {
-            if step_both(rt, chains, bits, Step::Take(v, u)).is_none() {
-                count = count.wrapping_add(1);
-            }
-        }
+    // Fills the books, empties them, fills them again in the other order, takes out and puts in at random, and empties
+    // them: the places that are left over at the end are all there.
+    fn all_phases(&mut self, rt: &impl Abort, links: u32) {
+        assert!(rt; self.agree());
+        assert_eq!(rt; self.fill_up(rt), links);
+        assert_eq!(rt; self.empty(rt), links);
+        assert_eq!(rt; self.fill_down(rt), links);
+        self.mix(rt, 500, 2026);
+        let held = self.chains.links();
+        assert_eq!(rt; self.empty(rt), held);
+        assert_eq!(rt; self.fill_down(rt), links);
+        assert_eq!(rt; self.chains.links(), links);
     }
-    count
-}
-
-// The numbers of a linear congruential generator, of which the upper half is used.
-fn next_roll(seed: u32) -> u32 {
-    seed.wrapping_mul(1664525).wrapping_add(1013904223)
 }
 
 // A step on two numbers up to the number of cards, which is no card itself. Of three steps two put.
-fn random_step(seed: u32, cards: u16) -> Step {
-    let roll = seed >> 8;
-    let u = (roll % (u32::from(cards) + 1)) as u16;
-    let v = ((roll >> 10) % (u32::from(cards) + 1)) as u16;
+fn random_step(roll: u32, cards: u16) -> Step {
+    let numbers = u32::from(cards) + 1;
+    let u = (roll % numbers) as u16;
+    let v = ((roll >> 10) % numbers) as u16;
     if roll % 3 == 0 {
         Step::Take(u, v)
     } else {
@@ -107,75 +125,39 @@ fn random_step(seed: u32, cards: u16) -> Step {
     }
 }
 
-fn mix<A: WritingBook, B: WritingBook>(
-    rt: &impl Abort,
-    chains: &mut A,
-    bits: &mut B,
-    steps: u32,
-    seed: u32,
-) {
-    let mut seed = seed;
-    for _ in 0..steps {
-        seed = next_roll(seed);
-        let step = random_step(seed, chains.cards());
-        step_both(rt, chains, bits, step);
-    }
-}
-
-// Fills the books, empties them, fills them again in the other order, takes out and puts in at random, and empties
-// them: the places that are left over at the end are all there.
-fn all_phases<A: WritingBook, B: WritingBook>(
-    rt: &impl Abort,
-    chains: &mut A,
-    bits: &mut B,
-    links: u32,
-) {
-    assert!(rt; agree(chains, bits));
-    assert_eq!(rt; fill_up(rt, chains, bits), links);
-    assert_eq!(rt; empty(rt, chains, bits), links);
-    assert_eq!(rt; fill_down(rt, chains, bits), links);
-    mix(rt, chains, bits, 500, 2026);
-    let held = chains.links();
-    assert_eq!(rt; empty(rt, chains, bits), held);
-    assert_eq!(rt; fill_down(rt, chains, bits), links);
-    assert_eq!(rt; chains.links(), links);
+// All phases on books of so many cards, in so many records and so many bytes, where so many links have a place.
+fn all_phases_on<const RECORDS: usize, const BYTES: usize>(rt: &impl Abort, cards: u16, links: u32)
+    requires records { RECORDS ≤ 1000 }
+    requires bytes { BYTES ≤ 1000 }
+{
+    let mut records = [OLD; RECORDS];
+    let mut memory = [0xff; BYTES];
+    let mut both = Both {
+        chains: ChainBook::new(cards, &mut records),
+        bits: BitBook::new(cards, &mut memory),
+    };
+    both.all_phases(rt, links);
 }
 
 // Ten pairs of five cards, and as many places.
 #[test]
 fn every_pair_has_a_place(rt: HostRuntime) {
-    let mut records = [OLD; 25];
-    let mut memory = [0xff; 2];
-    let mut chains = ChainBook::new(5, &mut records);
-    let mut bits = BitBook::new(5, &mut memory);
-    all_phases(&rt, &mut chains, &mut bits, 10);
+    all_phases_on::<25, 2>(&rt, 5, 10);
 }
 
 // 28 pairs of eight cards, and (31 - 8) / 2 places.
 #[test]
 fn eleven_pairs_have_a_place(rt: HostRuntime) {
-    let mut records = [OLD; 31];
-    let mut memory = [0xff; 4];
-    let mut chains = ChainBook::new(8, &mut records);
-    let mut bits = BitBook::new(8, &mut memory);
-    all_phases(&rt, &mut chains, &mut bits, 11);
+    all_phases_on::<31, 4>(&rt, 8, 11);
 }
 
 #[test]
 fn one_pair_has_a_place(rt: HostRuntime) {
-    let mut records = [OLD; 13];
-    let mut memory = [0xff; 6];
-    let mut chains = ChainBook::new(10, &mut records);
-    let mut bits = BitBook::new(10, &mut memory);
-    all_phases(&rt, &mut chains, &mut bits, 1);
+    all_phases_on::<13, 6>(&rt, 10, 1);
 }
 
 // More places than the 276 pairs of 24 cards.
 #[test]
 fn places_are_left_over(rt: HostRuntime) {
-    let mut records = [OLD; 1000];
-    let mut memory = [0xff; 35];
-    let mut chains = ChainBook::new(24, &mut records);
-    let mut bits = BitBook::new(24, &mut memory);
-    all_phases(&rt, &mut chains, &mut bits, 276);
+    all_phases_on::<1000, 35>(&rt, 24, 276);
 }

@@ -1,16 +1,16 @@
 // The bit book: its memory byte by byte, its answers and its refusals.
-use super::outcomes::refusal;
+use super::steps::{FROM_ANYWHERE, ask};
 use bit_book::{BitBook, check as suits};
-use books::{ReadingBook, WritingBook};
+use books::{ReadingBook, Refusal, WritingBook};
 
 // 1,024 cards have 523,776 pairs, and their bits fill 65,472 bytes.
 #[test]
 fn the_largest_book_needs_65472_bytes(rt: HostRuntime) {
     let memory = [0; 65472];
-    assert_eq!(rt; refusal(suits(1024, &memory)), None);
-    assert_eq!(rt; refusal(suits(1024, &memory[1..])), Some(7));
-    assert_eq!(rt; refusal(suits(1025, &memory)), Some(7));
-    assert_eq!(rt; refusal(suits(0, &memory)), Some(7));
+    assert_eq!(rt; suits(1024, &memory), Ok(()));
+    assert_eq!(rt; suits(1024, &memory[1..]), Err(Refusal::Unsuitable));
+    assert_eq!(rt; suits(1025, &memory), Err(Refusal::Unsuitable));
+    assert_eq!(rt; suits(0, &memory), Err(Refusal::Unsuitable));
 }
 
 // The last pair, 1022-1023, is the highest bit of the last needed byte.
@@ -23,7 +23,7 @@ fn the_largest_book_keeps_to_its_bytes(rt: HostRuntime) {
             (book.cards(), book.links(), book.places()),
             (1024, 0, 523776)
         );
-        assert_eq!(rt; refusal(book.put(1023, 1022)), None);
+        assert_eq!(rt; book.put(1023, 1022), Ok(()));
         assert_eq!(rt; book.next_partner(1022, 0), Some(1023));
     }
     assert_eq!(rt;
@@ -35,11 +35,11 @@ fn the_largest_book_keeps_to_its_bytes(rt: HostRuntime) {
 #[test]
 fn one_card_needs_no_byte_and_has_no_place(rt: HostRuntime) {
     let mut memory = [0; 0];
-    assert_eq!(rt; refusal(suits(1, &memory)), None);
-    assert_eq!(rt; refusal(suits(2, &memory)), Some(7));
+    assert_eq!(rt; suits(1, &memory), Ok(()));
+    assert_eq!(rt; suits(2, &memory), Err(Refusal::Unsuitable));
     let mut book = BitBook::new(1, &mut memory);
     assert_eq!(rt; (book.cards(), book.links(), book.places()), (1, 0, 0));
-    assert_eq!(rt; refusal(book.put(0, 0)), Some(2));
+    assert_eq!(rt; book.put(0, 0), Err(Refusal::SameCard));
     assert_eq!(rt; book.next_partner(0, 0), None);
 }
 
@@ -58,12 +58,12 @@ fn the_making_clears_the_needed_bytes_and_no_other(rt: HostRuntime) {
 #[test]
 fn where_the_check_refuses_nothing_is_touched(rt: HostRuntime) {
     let mut memory = [0xff; 1];
-    assert_eq!(rt; refusal(suits(5, &memory)), Some(7));
+    assert_eq!(rt; suits(5, &memory), Err(Refusal::Unsuitable));
     {
         let mut book = BitBook::new(5, &mut memory);
         assert_eq!(rt; (book.cards(), book.links(), book.places()), (1, 0, 0));
         assert!(rt; !book.linked(0, 1));
-        assert_eq!(rt; refusal(book.put(0, 1)), Some(1));
+        assert_eq!(rt; book.put(0, 1), Err(Refusal::NoSuchCard));
     }
     assert_eq!(rt; memory, [0xff]);
 }
@@ -74,10 +74,10 @@ fn a_put_sets_the_bit_of_its_pair(rt: HostRuntime) {
     let mut memory = [0xff; 3];
     {
         let mut book = BitBook::new(5, &mut memory);
-        assert_eq!(rt; refusal(book.put(0, 1)), None);
-        assert_eq!(rt; refusal(book.put(2, 1)), None);
-        assert_eq!(rt; refusal(book.put(4, 2)), None);
-        assert_eq!(rt; refusal(book.put(3, 4)), None);
+        assert_eq!(rt; book.put(0, 1), Ok(()));
+        assert_eq!(rt; book.put(2, 1), Ok(()));
+        assert_eq!(rt; book.put(4, 2), Ok(()));
+        assert_eq!(rt; book.put(3, 4), Ok(()));
         assert_eq!(rt; book.links(), 4);
     }
     assert_eq!(rt; memory, [0b0000_0101, 0b0000_0011, 0xff]);
@@ -89,29 +89,30 @@ fn a_take_clears_the_bit_of_its_pair(rt: HostRuntime) {
     let mut memory = [0xff; 3];
     {
         let mut book = BitBook::new(5, &mut memory);
-        assert_eq!(rt; refusal(book.put(0, 2)), None);
-        assert_eq!(rt; refusal(book.put(1, 4)), None);
-        assert_eq!(rt; refusal(book.put(2, 4)), None);
-        assert_eq!(rt; refusal(book.take(4, 1)), None);
+        assert_eq!(rt; book.put(0, 2), Ok(()));
+        assert_eq!(rt; book.put(1, 4), Ok(()));
+        assert_eq!(rt; book.put(2, 4), Ok(()));
+        assert_eq!(rt; book.take(4, 1), Ok(()));
         assert_eq!(rt; book.links(), 2);
         assert!(rt; !book.linked(1, 4) && book.linked(2, 0));
     }
     assert_eq!(rt; memory, [0b0000_0010, 0b0000_0001, 0xff]);
 }
 
-// A number that is no card comes before equal ends, and both before what the book holds.
+// A number that is no card comes before equal ends, and both before what the book holds. (The chain book has a test of its
+// own, for it can also be full, which comes last; the steps differ.)
 #[test]
 fn refusals_come_in_their_order(rt: HostRuntime) {
     let mut memory = [0; 1];
     let mut book = BitBook::new(4, &mut memory);
-    assert_eq!(rt; refusal(book.put(4, 4)), Some(1));
-    assert_eq!(rt; refusal(book.put(0, 4)), Some(1));
-    assert_eq!(rt; refusal(book.take(65535, 0)), Some(1));
-    assert_eq!(rt; refusal(book.take(3, 3)), Some(2));
-    assert_eq!(rt; refusal(book.put(3, 3)), Some(2));
-    assert_eq!(rt; refusal(book.take(1, 3)), Some(12));
-    assert_eq!(rt; refusal(book.put(1, 3)), None);
-    assert_eq!(rt; refusal(book.put(3, 1)), Some(11));
+    assert_eq!(rt; book.put(4, 4), Err(Refusal::NoSuchCard));
+    assert_eq!(rt; book.put(0, 4), Err(Refusal::NoSuchCard));
+    assert_eq!(rt; book.take(65535, 0), Err(Refusal::NoSuchCard));
+    assert_eq!(rt; book.take(3, 3), Err(Refusal::SameCard));
+    assert_eq!(rt; book.put(3, 3), Err(Refusal::SameCard));
+    assert_eq!(rt; book.take(1, 3), Err(Refusal::LinkMissing));
+    assert_eq!(rt; book.put(1, 3), Ok(()));
+    assert_eq!(rt; book.put(3, 1), Err(Refusal::LinkHeld));
     assert_eq!(rt; book.links(), 1);
 }
 
@@ -121,11 +122,11 @@ fn a_full_book_holds_every_pair(rt: HostRuntime) {
     let mut memory = [0xff; 1];
     {
         let mut book = BitBook::new(3, &mut memory);
-        assert_eq!(rt; refusal(book.put(0, 1)), None);
-        assert_eq!(rt; refusal(book.put(0, 2)), None);
-        assert_eq!(rt; refusal(book.put(1, 2)), None);
+        assert_eq!(rt; book.put(0, 1), Ok(()));
+        assert_eq!(rt; book.put(0, 2), Ok(()));
+        assert_eq!(rt; book.put(1, 2), Ok(()));
         assert_eq!(rt; (book.links(), book.places()), (3, 3));
-        assert_eq!(rt; refusal(book.put(2, 0)), Some(11));
+        assert_eq!(rt; book.put(2, 0), Err(Refusal::LinkHeld));
     }
     assert_eq!(rt; memory, [0b0000_0111]);
 }
@@ -134,28 +135,9 @@ fn a_full_book_holds_every_pair(rt: HostRuntime) {
 fn the_next_partner_may_be_asked_from_anywhere(rt: HostRuntime) {
     let mut memory = [0; 6];
     let mut book = BitBook::new(10, &mut memory);
-    assert_eq!(rt; refusal(book.put(4, 2)), None);
-    assert_eq!(rt; refusal(book.put(4, 9)), None);
-    assert_eq!(rt;
-        (book.next_partner(4, 0), book.next_partner(4, 2)),
-        (Some(2), Some(2))
-    );
-    assert_eq!(rt;
-        (book.next_partner(4, 3), book.next_partner(4, 9)),
-        (Some(9), Some(9))
-    );
-    assert_eq!(rt;
-        (book.next_partner(4, 10), book.next_partner(4, 65535)),
-        (None, None)
-    );
-    assert_eq!(rt;
-        (book.next_partner(9, 0), book.next_partner(9, 5)),
-        (Some(4), None)
-    );
-    assert_eq!(rt;
-        (book.next_partner(10, 0), book.next_partner(65535, 0)),
-        (None, None)
-    );
+    assert_eq!(rt; book.put(4, 2), Ok(()));
+    assert_eq!(rt; book.put(4, 9), Ok(()));
+    ask(&rt, &book, &FROM_ANYWHERE);
 }
 
 // In memory full of ones past the needed bits, a number that is no card is still linked to nothing.
@@ -163,7 +145,7 @@ fn the_next_partner_may_be_asked_from_anywhere(rt: HostRuntime) {
 fn numbers_past_the_cards_are_linked_to_nothing(rt: HostRuntime) {
     let mut memory = [0xff; 8];
     let mut book = BitBook::new(4, &mut memory);
-    assert_eq!(rt; refusal(book.put(0, 3)), None);
+    assert_eq!(rt; book.put(0, 3), Ok(()));
     assert!(rt; book.linked(0, 3) && book.linked(3, 0));
     assert!(rt; !book.linked(0, 0) && !book.linked(0, 4) && !book.linked(4, 0));
     assert!(rt; !book.linked(4, 5) && !book.linked(5, 5) && !book.linked(65535, 65534));

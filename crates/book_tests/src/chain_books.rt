@@ -1,15 +1,8 @@
 // The chain book: its memory record by record, its answers and its refusals.
-use super::outcomes::refusal;
 use super::steps::Step::{Put, Take};
-use super::steps::{ask, follow, sizes};
-use books::ReadingBook;
+use super::steps::{FROM_ANYWHERE, OLD, ask, follow, sizes};
+use books::{ReadingBook, Refusal};
 use chain_book::{ChainBook, Record, check as suits};
-
-// what the memory holds before there is a book
-const OLD: Record = Record {
-    partner: 7777,
-    next: 7777,
-};
 
 fn record(partner: u16, next: u16) -> Record {
     Record { partner, next }
@@ -18,23 +11,23 @@ fn record(partner: u16, next: u16) -> Record {
 #[test]
 fn a_book_takes_as_many_records_as_cards_or_more(rt: HostRuntime) {
     let records = [OLD; 61025];
-    assert_eq!(rt; refusal(suits(10, &records[0..10])), None);
-    assert_eq!(rt; refusal(suits(10, &records[0..9])), Some(7));
-    assert_eq!(rt; refusal(suits(1, &records[0..1])), None);
-    assert_eq!(rt; refusal(suits(1, &records[0..0])), Some(7));
-    assert_eq!(rt; refusal(suits(1024, &records[0..1024])), None);
-    assert_eq!(rt; refusal(suits(1024, &records[0..1023])), Some(7));
+    assert_eq!(rt; suits(10, &records[0..10]), Ok(()));
+    assert_eq!(rt; suits(10, &records[0..9]), Err(Refusal::Unsuitable));
+    assert_eq!(rt; suits(1, &records[0..1]), Ok(()));
+    assert_eq!(rt; suits(1, &records[0..0]), Err(Refusal::Unsuitable));
+    assert_eq!(rt; suits(1024, &records[0..1024]), Ok(()));
+    assert_eq!(rt; suits(1024, &records[0..1023]), Err(Refusal::Unsuitable));
 }
 
 #[test]
 fn a_book_takes_at_most_61024_records(rt: HostRuntime) {
     let records = [OLD; 61025];
-    assert_eq!(rt; refusal(suits(1, &records[0..61024])), None);
-    assert_eq!(rt; refusal(suits(1, &records)), Some(7));
-    assert_eq!(rt; refusal(suits(1024, &records[0..61024])), None);
-    assert_eq!(rt; refusal(suits(1024, &records)), Some(7));
-    assert_eq!(rt; refusal(suits(1025, &records[0..61024])), Some(7));
-    assert_eq!(rt; refusal(suits(0, &records[0..61024])), Some(7));
+    assert_eq!(rt; suits(1, &records[0..61024]), Ok(()));
+    assert_eq!(rt; suits(1, &records), Err(Refusal::Unsuitable));
+    assert_eq!(rt; suits(1024, &records[0..61024]), Ok(()));
+    assert_eq!(rt; suits(1024, &records), Err(Refusal::Unsuitable));
+    assert_eq!(rt; suits(1025, &records[0..61024]), Err(Refusal::Unsuitable));
+    assert_eq!(rt; suits(0, &records[0..61024]), Err(Refusal::Unsuitable));
 }
 
 // Five of eight records are left after three heads, so there are two places; the last record is not needed.
@@ -69,7 +62,7 @@ fn a_put_hangs_a_record_into_both_chains(rt: HostRuntime) {
     let mut records = [OLD; 8];
     {
         let mut book = ChainBook::new(3, &mut records);
-        follow(&rt, &mut book, &[(Put(2, 0), None), (Put(0, 1), None)]);
+        follow(&rt, &mut book, &[(Put(2, 0), Ok(())), (Put(0, 1), Ok(()))]);
         assert_eq!(rt; sizes(&book), (3, 2, 2));
     }
     assert_eq!(rt;
@@ -98,11 +91,11 @@ fn freed_records_are_used_again(rt: HostRuntime) {
             &rt,
             &mut book,
             &[
-                (Put(2, 0), None),
-                (Put(0, 1), None),
-                (Put(1, 2), Some(13)),
-                (Take(0, 2), None),
-                (Put(1, 2), None),
+                (Put(2, 0), Ok(())),
+                (Put(0, 1), Ok(())),
+                (Put(1, 2), Err(Refusal::Full)),
+                (Take(0, 2), Ok(())),
+                (Put(1, 2), Ok(())),
             ],
         );
         assert_eq!(rt; sizes(&book), (3, 2, 2));
@@ -131,11 +124,11 @@ fn ten_heads_and_three_further_records_have_one_place(rt: HostRuntime) {
         &rt,
         &mut book,
         &[
-            (Put(4, 9), None),
-            (Put(0, 1), Some(13)),
-            (Put(9, 4), Some(11)),
-            (Take(9, 4), None),
-            (Put(0, 1), None),
+            (Put(4, 9), Ok(())),
+            (Put(0, 1), Err(Refusal::Full)),
+            (Put(9, 4), Err(Refusal::LinkHeld)),
+            (Take(9, 4), Ok(())),
+            (Put(0, 1), Ok(())),
         ],
     );
     assert_eq!(rt; sizes(&book), (10, 1, 1));
@@ -151,17 +144,17 @@ fn refusals_come_in_their_order(rt: HostRuntime) {
         &rt,
         &mut book,
         &[
-            (Put(4, 4), Some(1)),
-            (Put(0, 4), Some(1)),
-            (Take(65535, 0), Some(1)),
-            (Take(3, 3), Some(2)),
-            (Put(3, 3), Some(2)),
-            (Take(1, 3), Some(12)),
-            (Put(1, 3), None),
-            (Put(5, 5), Some(1)),
-            (Put(2, 2), Some(2)),
-            (Put(3, 1), Some(11)),
-            (Put(0, 1), Some(13)),
+            (Put(4, 4), Err(Refusal::NoSuchCard)),
+            (Put(0, 4), Err(Refusal::NoSuchCard)),
+            (Take(65535, 0), Err(Refusal::NoSuchCard)),
+            (Take(3, 3), Err(Refusal::SameCard)),
+            (Put(3, 3), Err(Refusal::SameCard)),
+            (Take(1, 3), Err(Refusal::LinkMissing)),
+            (Put(1, 3), Ok(())),
+            (Put(5, 5), Err(Refusal::NoSuchCard)),
+            (Put(2, 2), Err(Refusal::SameCard)),
+            (Put(3, 1), Err(Refusal::LinkHeld)),
+            (Put(0, 1), Err(Refusal::Full)),
         ],
     );
     assert_eq!(rt; sizes(&book), (4, 1, 1));
@@ -177,14 +170,14 @@ fn a_refusal_leaves_every_record(rt: HostRuntime) {
             &rt,
             &mut book,
             &[
-                (Put(0, 1), None),
-                (Put(0, 1), Some(11)),
-                (Put(0, 2), Some(13)),
-                (Put(2, 2), Some(2)),
-                (Put(2, 4), Some(1)),
-                (Take(2, 3), Some(12)),
-                (Take(1, 1), Some(2)),
-                (Take(0, 9), Some(1)),
+                (Put(0, 1), Ok(())),
+                (Put(0, 1), Err(Refusal::LinkHeld)),
+                (Put(0, 2), Err(Refusal::Full)),
+                (Put(2, 2), Err(Refusal::SameCard)),
+                (Put(2, 4), Err(Refusal::NoSuchCard)),
+                (Take(2, 3), Err(Refusal::LinkMissing)),
+                (Take(1, 1), Err(Refusal::SameCard)),
+                (Take(0, 9), Err(Refusal::NoSuchCard)),
             ],
         );
     }
@@ -206,7 +199,7 @@ fn a_refusal_leaves_every_record(rt: HostRuntime) {
 #[test]
 fn where_the_check_refuses_nothing_is_touched(rt: HostRuntime) {
     let mut records = [OLD; 5];
-    assert_eq!(rt; refusal(suits(1025, &records)), Some(7));
+    assert_eq!(rt; suits(1025, &records), Err(Refusal::Unsuitable));
     {
         let mut book = ChainBook::new(1025, &mut records);
         assert_eq!(rt; sizes(&book), (1, 0, 0));
@@ -220,9 +213,9 @@ fn where_the_check_refuses_nothing_is_touched(rt: HostRuntime) {
             &rt,
             &mut book,
             &[
-                (Put(0, 1), Some(1)),
-                (Put(0, 0), Some(2)),
-                (Take(0, 0), Some(2)),
+                (Put(0, 1), Err(Refusal::NoSuchCard)),
+                (Put(0, 0), Err(Refusal::SameCard)),
+                (Take(0, 0), Err(Refusal::SameCard)),
             ],
         );
     }
@@ -239,7 +232,10 @@ fn a_book_can_stand_on_no_record(rt: HostRuntime) {
     follow(
         &rt,
         &mut book,
-        &[(Put(0, 0), Some(2)), (Take(0, 1), Some(1))],
+        &[
+            (Put(0, 0), Err(Refusal::SameCard)),
+            (Take(0, 1), Err(Refusal::NoSuchCard)),
+        ],
     );
 }
 
@@ -252,7 +248,10 @@ fn one_card_has_places_and_no_link(rt: HostRuntime) {
     follow(
         &rt,
         &mut book,
-        &[(Put(0, 0), Some(2)), (Put(0, 1), Some(1))],
+        &[
+            (Put(0, 0), Err(Refusal::SameCard)),
+            (Put(0, 1), Err(Refusal::NoSuchCard)),
+        ],
     );
     ask(&rt, &book, &[(0, 0, None)]);
 }
@@ -266,7 +265,7 @@ fn the_largest_book_has_30000_places(rt: HostRuntime) {
     follow(
         &rt,
         &mut book,
-        &[(Put(1023, 1022), None), (Put(0, 1023), None)],
+        &[(Put(1023, 1022), Ok(())), (Put(0, 1023), Ok(()))],
     );
     ask(
         &rt,
@@ -294,21 +293,6 @@ fn the_last_of_61023_records_is_not_touched(rt: HostRuntime) {
 fn the_next_partner_may_be_asked_from_anywhere(rt: HostRuntime) {
     let mut records = [OLD; 20];
     let mut book = ChainBook::new(10, &mut records);
-    follow(&rt, &mut book, &[(Put(4, 9), None), (Put(4, 2), None)]);
-    ask(
-        &rt,
-        &book,
-        &[
-            (4, 0, Some(2)),
-            (4, 2, Some(2)),
-            (4, 3, Some(9)),
-            (4, 9, Some(9)),
-            (4, 10, None),
-            (4, 65535, None),
-            (9, 0, Some(4)),
-            (9, 5, None),
-            (10, 0, None),
-            (65535, 0, None),
-        ],
-    );
+    follow(&rt, &mut book, &[(Put(4, 9), Ok(())), (Put(4, 2), Ok(()))]);
+    ask(&rt, &book, &FROM_ANYWHERE);
 }

@@ -1,38 +1,37 @@
 // The closed book: which lists it takes, and what it reads from them.
-use super::outcomes::refusal;
-use books::ReadingBook;
+use books::{ReadingBook, Refusal};
 use closed_book::{ClosedBook, check as suits};
 
 #[test]
 fn a_list_out_of_order_is_refused(rt: HostRuntime) {
-    assert_eq!(rt; refusal(suits(4, &[0, 1, 0, 2, 1, 2])), None);
-    assert_eq!(rt; refusal(suits(4, &[0, 2, 0, 1])), Some(8));
-    assert_eq!(rt; refusal(suits(4, &[1, 2, 0, 3])), Some(8));
-    assert_eq!(rt; refusal(suits(4, &[0, 1, 0, 1])), Some(8));
+    assert_eq!(rt; suits(4, &[0, 1, 0, 2, 1, 2]), Ok(()));
+    assert_eq!(rt; suits(4, &[0, 2, 0, 1]), Err(Refusal::BadList));
+    assert_eq!(rt; suits(4, &[1, 2, 0, 3]), Err(Refusal::BadList));
+    assert_eq!(rt; suits(4, &[0, 1, 0, 1]), Err(Refusal::BadList));
 }
 
 #[test]
 fn a_pair_that_is_no_link_is_refused(rt: HostRuntime) {
-    assert_eq!(rt; refusal(suits(4, &[0, 1, 2])), Some(8));
-    assert_eq!(rt; refusal(suits(4, &[2, 2])), Some(8));
-    assert_eq!(rt; refusal(suits(4, &[2, 1])), Some(8));
-    assert_eq!(rt; refusal(suits(4, &[0, 4])), Some(8));
-    assert_eq!(rt; refusal(suits(5, &[0, 4])), None);
+    assert_eq!(rt; suits(4, &[0, 1, 2]), Err(Refusal::BadList));
+    assert_eq!(rt; suits(4, &[2, 2]), Err(Refusal::BadList));
+    assert_eq!(rt; suits(4, &[2, 1]), Err(Refusal::BadList));
+    assert_eq!(rt; suits(4, &[0, 4]), Err(Refusal::BadList));
+    assert_eq!(rt; suits(5, &[0, 4]), Ok(()));
 }
 
 // The number of cards is tested before the list.
 #[test]
 fn the_number_of_cards_comes_first(rt: HostRuntime) {
-    assert_eq!(rt; refusal(suits(0, &[])), Some(7));
-    assert_eq!(rt; refusal(suits(1025, &[])), Some(7));
-    assert_eq!(rt; refusal(suits(0, &[1, 0, 3])), Some(7));
-    assert_eq!(rt; refusal(suits(1025, &[1, 0, 3])), Some(7));
-    assert_eq!(rt; refusal(suits(1024, &[1022, 1023])), None);
+    assert_eq!(rt; suits(0, &[]), Err(Refusal::Unsuitable));
+    assert_eq!(rt; suits(1025, &[]), Err(Refusal::Unsuitable));
+    assert_eq!(rt; suits(0, &[1, 0, 3]), Err(Refusal::Unsuitable));
+    assert_eq!(rt; suits(1025, &[1, 0, 3]), Err(Refusal::Unsuitable));
+    assert_eq!(rt; suits(1024, &[1022, 1023]), Ok(()));
 }
 
 #[test]
 fn an_empty_list_has_no_link(rt: HostRuntime) {
-    assert_eq!(rt; refusal(suits(1, &[])), None);
+    assert_eq!(rt; suits(1, &[]), Ok(()));
     let book = ClosedBook::new(1024, &[]);
     assert_eq!(rt; (book.cards(), book.links()), (1024, 0));
     assert_eq!(rt; book.next_partner(3, 0), None);

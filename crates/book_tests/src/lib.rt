@@ -10,6 +10,6 @@ mod chain_books;
 #[cfg(test)]
 mod closed_books;
 #[cfg(test)]
-mod outcomes;
+mod refusals;
 #[cfg(test)]
 mod steps;

@@ -1,26 +1,52 @@
 // Steps on a book and questions to it, in a form that a test can write down as a table.
-use super::outcomes::refusal;
-use books::{ReadingBook, WritingBook};
+use books::{ReadingBook, Refusal, WritingBook};
+use chain_book::Record;
 use std::process::Abort;
 
+// What each record of the memory holds before there is a chain book.
+pub(crate) const OLD: Record = Record {
+    partner: 7777,
+    next: 7777,
+};
+
+// Of ten cards, where 4 has the partners 2 and 9: questions from anywhere, and their answers.
+pub(crate) const FROM_ANYWHERE: [(u16, u16, Option<u16>); 10] = [
+    (4, 0, Some(2)),
+    (4, 2, Some(2)),
+    (4, 3, Some(9)),
+    (4, 9, Some(9)),
+    (4, 10, None),
+    (4, 65535, None),
+    (9, 0, Some(4)),
+    (9, 5, None),
+    (10, 0, None),
+    (65535, 0, None),
+];
+
+// A step is data, not a closure: tests write steps down in tables, each beside what it comes to.
 #[derive(Clone, Copy)]
 pub(crate) enum Step {
     Put(u16, u16),
     Take(u16, u16),
 }
 
-// Does the step, and answers the number of its refusal, or none where it was done.
-pub(crate) fn done<B: WritingBook>(book: &mut B, step: Step) -> Option<u8> {
-    match step {
-        Step::Put(u, v) => refusal(book.put(u, v)),
-        Step::Take(u, v) => refusal(book.take(u, v)),
+impl Step {
+    pub(crate) fn apply<B: WritingBook>(self, book: &mut B) -> Result<(), Refusal> {
+        match self {
+            Step::Put(u, v) => book.put(u, v),
+            Step::Take(u, v) => book.take(u, v),
+        }
     }
 }
 
 // Does each step, and sees that it comes to what stands beside it.
-pub(crate) fn follow<B: WritingBook>(rt: &impl Abort, book: &mut B, steps: &[(Step, Option<u8>)]) {
+pub(crate) fn follow<B: WritingBook>(
+    rt: &impl Abort,
+    book: &mut B,
+    steps: &[(Step, Result<(), Refusal>)],
+) {
     for (step, outcome) in steps {
-        assert_eq!(rt; done(book, *step), *outcome);
+        assert_eq!(rt; step.apply(book), *outcome);
     }
 }
 

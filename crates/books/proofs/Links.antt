@@ -1,31 +1,20 @@
 -- What one link more, or one link less, makes of a graph.
 use Rattle.std.proofs.Common.{◌≡◌, ℕ, ◌+◌, ◌<◌, ◌≤◌, Bool, true, false, cond, ◌&&◌, ◌||◌, eqb, leb, ◌⊎◌, Some, None, Option, sym, refl, ap, ◌∙◌, inl, inr, ⊎_elim, arith}
-use Rattle.std.proofs.lemmas.Bool.{cases_eq, cases_lt, cases_Bool, eq-eqb, ne_eqb, lt-leb, or_right, or_from, or_cases, and_left, and_right, and_parts, eqb-true, cond-true, cond-false, or_parts, leb-false, eqb-false}
+use Rattle.std.proofs.Math.Bool.{or_comm, and_comm}
+use Rattle.std.proofs.lemmas.Bool.{cases_eq, cases_lt, cases_Bool, eq-eqb, ne_eqb, or_right, or_from, or_cases, and_left, and_right, and_parts, eqb-true, cond-true, cond-false, or_parts, leb-false, eqb-false}
 use Rattle.books.specs.declared.refusal.Refusal.{Refusal}
 use Rattle.books.specs.declared.refusal.Refusal.TheVariants.{NoSuchCard, SameCard, LinkHeld, LinkMissing, Full}
 use Rattle.books.specs.Sums.{pair_sum, one}
 use Rattle.books.specs.Graphs.{Graph, Lawful, weight, link_count, same_pair, with_link, without_link}
-use Rattle.books.specs.Refusals.{put_refusal, take_refusal}
+use Rattle.books.specs.Refusals.{refusal_number, put_refusal, take_refusal}
 use Rattle.books.proofs.Sums.{pairs_point, pairs_most, one_le, tri}
 
 pub graph_same : (g h : Graph) → g.cards ≡ h.cards → ((u v : ℕ) → g.linked u v ≡ h.linked u v) → g ≡ h
 graph_same g h e a = λ i. record { cards = e i; linked = λ u v. a u v i }
 
-pub or_turn : (a b : Bool) → (a || b) ≡ (b || a)
-or_turn true true = refl
-or_turn true false = refl
-or_turn false true = refl
-or_turn false false = refl
-
 pub or_none : (x y : Bool) → y ≡ false → (x || y) ≡ x
 or_none true y e = refl
 or_none false y e = e
-
-pub and_turn : (a b : Bool) → (a && b) ≡ (b && a)
-and_turn true true = refl
-and_turn true false = refl
-and_turn false true = refl
-and_turn false false = refl
 
 pub same_straight : (a b : ℕ) → same_pair a b a b ≡ true
 same_straight a b = rw (eq-eqb a a refl, eq-eqb b b refl)
@@ -46,10 +35,10 @@ same_other a b x y h k = or_from (eqb x a && eqb y b) (eqb x b && eqb y a) (and_
 
 -- the order of the first two, and of the last two, does not matter
 pub same_swap : (u v x y : ℕ) → same_pair u v x y ≡ same_pair v u x y
-same_swap u v x y = or_turn (eqb x u && eqb y v) (eqb x v && eqb y u)
+same_swap u v x y = or_comm (eqb x u && eqb y v) (eqb x v && eqb y u)
 
 pub same_turn : (u v x y : ℕ) → same_pair u v x y ≡ same_pair u v y x
-same_turn u v x y = λ i. or_turn (and_turn (eqb x u) (eqb y v) i) (and_turn (eqb x v) (eqb y u) i) i
+same_turn u v x y = λ i. or_comm (and_comm (eqb x u) (eqb y v) i) (and_comm (eqb x v) (eqb y u) i) i
 
 pub same_cases : (a b x y : ℕ) → same_pair a b x y ≡ true → ((x ≡ a) × (y ≡ b)) ⊎ ((x ≡ b) × (y ≡ a))
 same_cases a b x y h = elim (or_cases (eqb x a && eqb y b) (eqb x b && eqb y a) h) [
@@ -128,14 +117,6 @@ without_count g u v w en held =
 pub links_most : (g : Graph) → link_count g ≤ tri g.cards
 links_most g = pairs_most (weight g) g.cards (λ v u. one_le (g.linked v u))
 
--- no refusal applies
-pub put_none : (g : Graph) (p u v : ℕ) → Ends g u v → g.linked u v ≡ false → (link_count g ≡ p → ⊥) → None ≡ put_refusal g p u v
-put_none g p u v en f full =
-    rw (lt-leb g.cards u en.first, lt-leb g.cards v en.second, ne_eqb u v en.differ, f, ne_eqb (link_count g) p full)
-
-pub take_none : (g : Graph) (u v : ℕ) → Ends g u v → g.linked u v ≡ true → None ≡ take_refusal g u v
-take_none g u v en f = rw (lt-leb g.cards u en.first, lt-leb g.cards v en.second, ne_eqb u v en.differ, f)
-
 -- where no refusal applies
 pub record MayPut (g : Graph) (p u v : ℕ) : Type 0 where
   pub ends : Ends g u v
@@ -146,11 +127,8 @@ pub record MayTake (g : Graph) (u v : ℕ) : Type 0 where
   pub ends : Ends g u v
   pub held : g.linked u v ≡ true
 
-some_not : (e : Refusal) → Some e ≡ None → ⊥
-some_not e h = let z : ◌≡◌ {A = ℕ} 0 1 = cc in omega arith
-
 passed : (b : Bool) (e : Refusal) (o : Option Refusal) → cond b (Some e) o ≡ None → (b ≡ false) × (o ≡ None)
-passed true e o h = absurd (some_not e h)
+passed true e o h = absurd cc
 passed false e o h = (refl, h)
 
 pub put_may : (g : Graph) (p u v : ℕ) → put_refusal g p u v ≡ None → MayPut g p u v
@@ -178,4 +156,31 @@ take_may g u v h =
   where
     last : (b : Bool) → cond b None (Some LinkMissing) ≡ None → b ≡ true
     last true e = refl
-    last false e = absurd (some_not LinkMissing e)
+    last false e = absurd cc
+
+-- where only being full is in the way
+pub record IsFull (g : Graph) (p u v : ℕ) : Type 0 where
+  pub ends : Ends g u v
+  pub out : g.linked u v ≡ false
+  pub full : link_count g ≡ p
+
+-- the test of an earlier refusal has passed
+past : (b : Bool) (e : Refusal) (o : Option Refusal) → (refusal_number e ≡ 13 → ⊥) → cond b (Some e) o ≡ Some Full → (b ≡ false) × (o ≡ Some Full)
+past true e o n h = absurd (n (let z : e ≡ Full = cc in rw z))
+past false e o n h = (refl, h)
+
+full_test : (b : Bool) → cond b (Some Full) None ≡ Some Full → b ≡ true
+full_test true h = refl
+full_test false h = absurd cc
+
+pub put_full : (g : Graph) (p u v : ℕ) → put_refusal g p u v ≡ Some Full → IsFull g p u v
+put_full g p u v h =
+    let a = past (leb g.cards u || leb g.cards v) NoSuchCard _ (λ e. omega (arith, e)) h in
+    let b = past (eqb u v) SameCard _ (λ e. omega (arith, e)) a.1 in
+    let c = past (g.linked u v) LinkHeld _ (λ e. omega (arith, e)) b.1 in
+    let o = or_parts (leb g.cards u) (leb g.cards v) a.0 in
+    record {
+      ends = record { first = leb-false g.cards u o.0; second = leb-false g.cards v o.1; differ = eqb-false u v b.0 };
+      out = c.0;
+      full = eqb-true (link_count g) p (full_test _ c.1);
+    }

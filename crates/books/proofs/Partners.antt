@@ -1,27 +1,12 @@
 -- What an answer of the next-partner question says, and walks from partner to partner.
-use Rattle.std.proofs.Common.{◌≡◌, ℕ, zero, suc, ◌+◌, ◌-◌, ◌<◌, ◌≤◌, Bool, true, false, cond, eqb, Some, None, Option, sym, refl, ap, ◌∙◌, subst, inl, inr, ⊎_elim, arith}
-use Rattle.std.proofs.lemmas.Bool.{cases_eq, cases_Bool, cases_order, eq-eqb, ne_eqb, cond-true, cond-false, both_ways}
+use Rattle.std.proofs.Common.{◌≡◌, ℕ, zero, suc, ◌+◌, ◌-◌, ◌<◌, ◌≤◌, Bool, true, false, Some, None, Option, MatchOption, sym, refl, ap, ◌∙◌, inl, inr, ⊎_elim, arith}
+use Rattle.std.proofs.lemmas.Bool.{cases_eq, cases_Bool, cases_order, cond-true, cond-false, both_ways}
 use Rattle.books.specs.Graphs.{Graph, Lawful}
 use Rattle.books.specs.Books.{first_from, next_partner, LowestPartner}
 
-pub first_step : (p : ℕ → Bool) (n w : ℕ) → w < n → first_from p (n - w) w ≡ cond (p w) (Some w) (first_from p (n - (w + 1)) (w + 1))
-first_step p n w h = let e : n - w ≡ suc (n - (w + 1)) = omega arith in rw e
-
-pub first_here : (p : ℕ → Bool) (n w : ℕ) → w < n → p w ≡ true → first_from p (n - w) w ≡ Some w
-first_here p n w h t = rw (first_step p n w h, t)
-
-pub first_later : (p : ℕ → Bool) (n w : ℕ) → w < n → p w ≡ false → first_from p (n - w) w ≡ first_from p (n - (w + 1)) (w + 1)
-first_later p n w h t = first_step p n w h ∙ ap (λ b. cond b (Some w) (first_from p (n - (w + 1)) (w + 1))) t
-
-pub first_past : (p : ℕ → Bool) (n w : ℕ) → n ≤ w → first_from p (n - w) w ≡ None
-first_past p n w h = let e : n - w ≡ 0 = omega arith in rw e
-
-none_some : {X : Type 0} (x : X) → None ≡ Some x → ⊥
-none_some x e = let z : ◌≡◌ {A = ℕ} 0 1 = cc in omega arith
-
 first_some : (p : ℕ → Bool) (k w x : ℕ) → first_from p k w ≡ Some x
     → (w ≤ x) × (x < w + k) × (p x ≡ true) × ((y : ℕ) → w ≤ y → y < x → p y ≡ false)
-first_some p zero w x h = absurd (none_some x h)
+first_some p zero w x h = absurd cc
 first_some p (suc k) w x h =
     ⊎_elim
     (λ (e : p w ≡ true).
@@ -41,7 +26,7 @@ first_all : (p : ℕ → Bool) (k w : ℕ) → first_from p k w ≡ None → (y 
 first_all p zero w h y l m = absurd (omega arith)
 first_all p (suc k) w h y l m =
     ⊎_elim
-    (λ (e : p w ≡ true). absurd (none_some w (sym (sym (cond-true (p w) (Some w) (first_from p k (w + 1)) e) ∙ h))))
+    (λ (e : p w ≡ true). let z : Some w ≡ None = sym (cond-true (p w) (Some w) (first_from p k (w + 1)) e) ∙ h in absurd cc)
     (λ (e : p w ≡ false).
     ⊎_elim (λ (q : y ≡ w). rw q e)
     (λ (q : y ≡ w → ⊥). first_all p k (w + 1) (sym (cond-false (p w) (Some w) (first_from p k (w + 1)) e) ∙ h) y (omega arith) (omega arith))
@@ -72,6 +57,17 @@ next_lowest g l u w None h = λ v a. elim (cases_Bool (g.linked u v)) [
   | inl y ↦ absurd (both_ways _ (next_none g u w h v a (l.inside v u (l.even v u ∙ y))) y)
 ]
 
+-- what a look at the cards from w on finds first is the lowest partner
+pub lowest_found : (g : Graph) → Lawful g → (u w : ℕ) (r : Option ℕ)
+    → MatchOption r ((k : ℕ) → w ≤ k → k < g.cards → g.linked u k ≡ false)
+    (λ x. (w ≤ x) × (x < g.cards) × (g.linked u x ≡ true) × ((k : ℕ) → w ≤ k → k < x → g.linked u k ≡ false))
+    → LowestPartner g u w r
+lowest_found g l u w (Some x) h = (h.0, h.2, h.3)
+lowest_found g l u w None h = λ v a. elim (cases_Bool (g.linked u v)) [
+  | inr f ↦ f
+  | inl y ↦ absurd (both_ways _ (h v a (l.inside v u (l.even v u ∙ y))) y)
+]
+
 -- r is the lowest number from w on that passes the test, or it is none, and no such number passes
 abbrev pub Lowest : (ℕ → Bool) → ℕ → Option ℕ → Type 0
 Lowest p w (Some x) = (w ≤ x) × (p x ≡ true) × ((v : ℕ) → w ≤ v → v < x → p v ≡ false)
@@ -91,17 +87,10 @@ lowest_same p w (Some x) (Some y) h k = elim (cases_order x y) [
 ]
 
 -- the answer to the question in its own words is the lowest number that passes its test
-lowest_of : (g : Graph) (u w : ℕ) (r : Option ℕ) → LowestPartner g u w r → Lowest (g.linked u) w r
+pub lowest_of : (g : Graph) (u w : ℕ) (r : Option ℕ) → LowestPartner g u w r → Lowest (g.linked u) w r
 lowest_of g u w (Some x) h = h
 lowest_of g u w None h = h
 
 -- so whatever is the lowest number that passes that test is the next partner
 pub lowest_next : (g : Graph) → Lawful g → (u w : ℕ) (r : Option ℕ) → Lowest (g.linked u) w r → r ≡ next_partner g u w
 lowest_next g l u w r h = lowest_same (g.linked u) w r (next_partner g u w) h (lowest_of g u w (next_partner g u w) (next_lowest g l u w (next_partner g u w) refl))
-
--- u and v are linked exactly where v is the next partner of u from v on
-pub lowest_here : (g : Graph) (u v x : ℕ) → LowestPartner g u v (Some x) → eqb x v ≡ g.linked u v
-lowest_here g u v x h = elim (cases_eq x v) [
-  | inl e ↦ eq-eqb x v e ∙ sym (subst (λ (y : ℕ). g.linked u y ≡ true) e h.1)
-  | inr n ↦ ne_eqb x v n ∙ sym (h.2 v (omega arith) (omega (arith, h.0)))
-]

@@ -1,13 +1,12 @@
--- What a book means, whatever memory it stands on.
+-- What holds of every book, whatever memory it stands on.
 use Rattle.std.specs.Prelude.{◌≡◌, ℕ, zero, suc, ◌+◌, ◌-◌, ◌<◌, ◌≤◌, Bool, true, false, cond, ◌&&◌, Some, None, Option, nat_le}
 use Rattle.books.specs.Graphs.{Graph, Lawful}
 
--- a book's cards and links, and what holds of those of every book
-pub record Book : Type 0 where
-  pub graph : Graph
-  pub lawful : Lawful graph
-  pub least : 1 ≤ graph.cards
-  pub most : graph.cards ≤ 1024
+-- what holds of the cards and links g of every book
+pub record IsBook (g : Graph) : Type 0 where
+  pub lawful : Lawful g
+  pub least : 1 ≤ g.cards
+  pub most : g.cards ≤ 1024
 
 -- n cards suit a book: from 1 to 1,024
 abbrev pub cards_suit : ℕ → Bool

@@ -3,8 +3,10 @@
 
 mod reading;
 mod refusal;
+mod rules;
 mod writing;
 
 pub use reading::ReadingBook;
 pub use refusal::Refusal;
+pub use rules::{cards_suit, may_put, may_take};
 pub use writing::WritingBook;

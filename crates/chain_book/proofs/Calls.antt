@@ -1,208 +1,166 @@
--- What a question needs of the records that are lent to it, and what the two insertions of a put and the two removals
--- of a take need one after the other, and leave.
-use Rattle.std.proofs.Common.{◌≡◌, ℕ, ◌+◌, ◌-◌, ◌/◌, ◌<◌, ◌≤◌, true, ◌⊎◌, List, ◌++◌, length, take, drop, None, Option, sym, ap, ◌∙◌, subst, inl, inr, ⊎_elim, arith}
-use borrow.Rule.Slice.PartMut.{post_of}
+-- What a question needs of the book's own records, and what the two insertions of a put and the two removals of a take
+-- need one after the other, and leave.
+use Rattle.std.proofs.Common.{◌≡◌, ℕ, ◌+◌, ◌-◌, ◌/◌, ◌<◌, ◌≤◌, true, ◌⊎◌, List, ◌++◌, length, take, drop, None, Option, sym, ap, ◌∙◌, arith}
 use Rattle.std.proofs.lemmas.List.{length-append, length-take-le, take_at}
 use Rattle.books.specs.Graphs.{with_link, without_link}
-use Rattle.books.specs.Books.{next_partner}
+use Rattle.books.specs.Books.{next_partner, LowestPartner}
 use Rattle.books.specs.Refusals.{put_refusal, take_refusal}
+use Rattle.books.proofs.Partners.{next_lowest}
 use Rattle.chain_book.specs.declared.record.Record.{Record}
+use Rattle.chain_book.specs.declared.book.ChainBook.{ChainBook}
 use Rattle.chain_book.specs.Records.{next_of, partner_of, chain, free_records}
-use Rattle.chain_book.specs.Meaning.{holds, chain_graph}
+use Rattle.chain_book.specs.Meaning.{chain_graph, chain_linked}
 use Rattle.chain_book.specs.Order.{Chains, Sound}
-use Rattle.chain_book.specs.Steps.{Walkable, onward, found, first_partner, hung, unhung, put_in, taken_out}
+use Rattle.chain_book.specs.Steps.{Walkable, onward, found, first_partner, hung, unhung}
+use Rattle.chain_book.specs.Book.{own, past, graph_of, room_of, free_of}
 use Rattle.chain_book.proofs.Runs.{step}
 use Rattle.chain_book.proofs.Readings.{chain_next, none_next}
 use Rattle.chain_book.proofs.Memories.{Inserted, Removed, inserted, removed, held}
-use Rattle.chain_book.proofs.Writes.{walkable, linked_holds, free_some, some_link, Entering, entering, Leaving, leaving, put_fresh, put_graph, put_sound, put_free, take_held, take_graph, take_sound, take_free}
+use Rattle.chain_book.proofs.Writes.{walkable, free_some, some_link, Entering, entering, Leaving, leaving, put_fresh, put_graph, put_sound, put_free, take_held, take_graph, take_sound, take_free}
 
--- the first m records, as `&s[0..m]` has them
-abbrev pub front : ℕ → List Record → List Record
-front m rs = take (m - 0) rs
+-- all records, once the book's own are ts
+abbrev pub back : ChainBook → List Record → List Record
+back b ts = ts ++ past b
 
--- all records, once the first m of them are ts
-abbrev pub back : ℕ → List Record → List Record → List Record
-back m rs ts = ts ++ post_of 0 (m - 0) rs
+module _ (b : ChainBook) where
+  own_length : length (own b) ≡ b.needed
+  own_length = length-take-le b.needed b.records.now b.fits
 
-pub front_is : (m : ℕ) (rs : List Record) → front m rs ≡ take m rs
-front_is m rs = let e : m - 0 ≡ m = omega arith in ap (λ (k : ℕ). take k rs) e
+  back_own : (ts : List Record) → length ts ≡ b.needed → take b.needed (back b ts) ≡ ts
+  back_own ts e = take_at ts (past b) b.needed e
 
-front_length : (m : ℕ) (rs : List Record) → m ≤ length rs → length (front m rs) ≡ m
-front_length m rs h = ap length (front_is m rs) ∙ length-take-le m rs h
+-- r is the next partner, and so the lowest
+abbrev pub Next : ChainBook → ℕ → ℕ → Option ℕ → Type 0
+Next b u w r = record { is : r ≡ next_partner (graph_of b) u w; lowest : LowestPartner (graph_of b) u w r }
 
-pub back_is : (m : ℕ) (rs ts zs : List Record) → ts ≡ zs → back m rs ts ≡ zs ++ drop m rs
-back_is m rs ts zs e = let z : m - 0 ≡ m = omega arith in λ i. e i ++ drop (z i) rs
+-- A question about u.
+module _ (b : ChainBook) (u w : ℕ) where
+  next : (r : Option ℕ) → r ≡ next_partner (graph_of b) u w → Next b u w r
+  next r e = record { is = e; lowest = next_lowest (graph_of b) b.sound.lawful u w r e }
 
--- The memory after the first m records have become ts.
-module _ (m : ℕ) (rs ts : List Record) (e : length ts ≡ m) where
-  pub back_own : take m (back m rs ts) ≡ ts
-  back_own = take_at ts (post_of 0 (m - 0) rs) m e
+  pub ask_none : (b.cards ≤ u) ⊎ (b.needed ≡ 0) → Next b u w None
+  ask_none c = next None (none_next b.cards (own b) b.free b.links u w b.sound (rw own_length c))
 
-  pub back_fits : m ≤ length (back m rs ts)
-  back_fits = omega (arith, length-append ts (post_of 0 (m - 0) rs), e)
+  module _ (lu : u < b.cards) (some : b.needed ≡ 0 → ⊥) where
+    pub ask_runs : Walkable (own b) u
+    ask_runs = walkable (own b) u (b.sound.chains (omega (arith, own_length b))) lu
 
--- A question about u, to a book of n cards on the first m of these records.
-module _ (n m : ℕ) (rs : List Record) (free links u w : ℕ) (fits : m ≤ length rs) (sound : Sound n (take m rs) free links) where
-  pub ask_none : (n ≤ u) ⊎ (m ≡ 0) → None ≡ next_partner (chain_graph n (take m rs)) u w
-  ask_none c = none_next n (take m rs) free links u w sound (⊎_elim (λ g. inl g) (λ e. inr (length-take-le m rs fits ∙ e)) c)
+    pub ask_next : {r : Option ℕ} → r ≡ first_partner (partner_of (own b)) (onward (partner_of (own b)) w (chain (own b) u)) → Next b u w r
+    ask_next {r} e = next r (e ∙ chain_next b.cards (own b) b.free b.links u w b.sound (omega (arith, own_length b)) lu)
 
-  module _ (lu : u < n) (some : m ≡ 0 → ⊥) where
-    ask_chains : Chains n (take m rs) free
-    ask_chains = sound.chains (omega (arith, length-take-le m rs fits))
+-- what an insertion into u's chain needs
+abbrev pub Ready : List Record → ℕ → ℕ → Type 0
+Ready rs free u = record { head : u < length rs; runs : Walkable rs u; free : free < length rs }
 
-    pub ask_head : u < length (front m rs)
-    ask_head = omega (arith, front_length m rs fits, length-take-le m rs fits, ask_chains.heads)
-
-    pub ask_runs : Walkable (front m rs) u
-    ask_runs = subst (λ (zs : List Record). Walkable zs u) (sym (front_is m rs)) (walkable n (take m rs) free u ask_chains lu)
-
-    pub ask_next : (r : Option ℕ) → r ≡ first_partner (partner_of (front m rs)) (onward (partner_of (front m rs)) w (chain (front m rs) u)) → r ≡ next_partner (chain_graph n (take m rs)) u w
-    ask_next r e =
-        e ∙ (ap (λ (zs : List Record). first_partner (partner_of zs) (onward (partner_of zs) w (chain zs u))) (front_is m rs)
-        ∙ chain_next n (take m rs) free links u w sound (omega (arith, length-take-le m rs fits)) lu)
-
--- what a walk along u's chain needs, and the first free record
-pub record Ready (rs : List Record) (free u : ℕ) : Type 0 where
-  pub head : u < length rs
-  pub runs : Walkable rs u
-  pub fresh : free < length rs
-
-ready : (n : ℕ) (rs : List Record) (free u : ℕ) → Chains n rs free → u < n → 1 ≤ length (free_records rs free) → Ready rs free u
-ready n rs free u K lu one = record {
+ready : {n : ℕ} (rs : List Record) {free : ℕ} (u : ℕ) → Chains n rs free → u < n → 1 ≤ length (free_records rs free) → Ready rs free u
+ready {n} rs {free} u K lu one = record {
   head = omega (arith, K.heads);
-  runs = walkable n rs free u K lu;
-  fresh = (step n (length rs) (next_of rs) free K.some (free_some rs free one) K.spare).high;
+  runs = walkable rs u K lu;
+  free = (step n (length rs) (next_of rs) free K.some (free_some rs free one) K.spare).high;
 }
 
--- what a walk along u's chain to the record that holds w needs
-pub record Found (rs : List Record) (u w : ℕ) : Type 0 where
-  pub head : u < length rs
-  pub runs : Walkable rs u
-  pub held : found rs u w < length rs
+-- what a removal from u's chain needs
+abbrev pub Found : List Record → ℕ → ℕ → Type 0
+Found rs u w = record { head : u < length rs; runs : Walkable rs u; held : found rs u w < length rs }
 
--- A put of u and v into a book of n cards on the first m of these records.
-module _ (n m : ℕ) (rs : List Record) (free links u v : ℕ) (fits : m ≤ length rs) (sound : Sound n (take m rs) free links)
-    (may : put_refusal (chain_graph n (take m rs)) ((m - n) / 2) u v ≡ None) where
-  put_was : Sound n (front m rs) free links
-  put_was = subst (λ (zs : List Record). Sound n zs free links) (sym (front_is m rs)) sound
+-- what a put or a take leaves where it does not refuse: the book's own records ts, of which `last` is the first free one
+abbrev pub Left : ChainBook → ℕ → List Record → ℕ → Type 0
+Left b links ts last = record { fits : b.needed ≤ length (back b ts); sound : Sound b.cards (take b.needed (back b ts)) last links }
 
-  put_may : Entering n (front m rs) free u v
+-- A put of u and v.
+module _ (b : ChainBook) (u v : ℕ) {places : ℕ} (room : places ≡ room_of b) (may : None ≡ put_refusal (graph_of b) places u v) where
+  put_may : Entering b.cards (own b) b.free u v
   put_may =
-      entering n (front m rs) free links ((m - n) / 2) u v put_was (ap (λ (k : ℕ). (k - n) / 2) (sym (front_length m rs fits)))
-      (ap (λ (zs : List Record). put_refusal (chain_graph n zs) ((m - n) / 2) u v) (front_is m rs) ∙ may)
+      entering places u v b.sound (room ∙ ap (λ (k : ℕ). (k - b.cards) / 2) (sym (own_length b))) (sym may)
 
-  pub put_ready : Ready (front m rs) free u
-  put_ready = ready n (front m rs) free u put_may.chains put_may.ends.first (omega (arith, put_may.two))
+  pub put_first : Ready (own b) b.free u
+  put_first = ready (own b) u put_may.chains put_may.ends.first (omega (arith, put_may.two))
 
   -- after the first insertion
-  module _ (ss : List Record) (rest : ℕ) (es : ss ≡ hung (front m rs) free u v) (er : rest ≡ next_of (front m rs) free) where
-    put_one : Inserted n (front m rs) ss free rest u v
+  module _ {ss : List Record} {rest : ℕ} (es : ss ≡ hung (own b) b.free u v) (er : rest ≡ next_of (own b) b.free) where
+    put_one : Inserted b.cards (own b) ss b.free rest u v
     put_one =
-        inserted n (front m rs) free u v put_may.chains put_may.ends.first put_may.ends.second
-        (sym (linked_holds n (front m rs) u v put_may.ends.first) ∙ put_may.out) (free_some (front m rs) free (omega (arith, put_may.two))) ss rest es er
+        inserted u v put_may.chains put_may.ends.first put_may.ends.second
+        put_may.out (free_some (own b) b.free (omega (arith, put_may.two))) ss rest es er
 
     put_left : 1 ≤ length (free_records ss rest)
     put_left = omega (arith, put_may.two, ap length put_one.spare)
 
-    pub put_again : Ready ss rest v
-    put_again = ready n ss rest v put_one.chains put_may.ends.second put_left
+    pub put_second : Ready ss rest v
+    put_second = ready ss v put_one.chains put_may.ends.second put_left
 
     -- after the second
-    module _ (ts : List Record) (last : ℕ) (et : ts ≡ hung ss rest v u) (el : last ≡ next_of ss rest) where
-      put_two : Inserted n ss ts rest last v u
+    module _ {ts : List Record} {last : ℕ} (et : ts ≡ hung ss rest v u) (el : last ≡ next_of ss rest) where
+      put_two : Inserted b.cards ss ts rest last v u
       put_two =
-          inserted n ss rest v u put_one.chains put_may.ends.second put_may.ends.first
-          (put_fresh n (front m rs) ss free links rest u v put_was put_may.ends put_may.out put_one) (free_some ss rest put_left) ts last et el
+          inserted v u put_one.chains put_may.ends.second put_may.ends.first
+          (put_fresh b.sound put_may.ends put_may.out put_one) (free_some ss rest put_left) ts last et el
 
-      pub put_size : length ts ≡ m
-      put_size = put_two.size ∙ (put_one.size ∙ front_length m rs fits)
+      put_size : length ts ≡ b.needed
+      put_size = put_two.size ∙ (put_one.size ∙ own_length b)
 
-      pub put_stands : Sound n (take m (back m rs ts)) last (links + 1)
-      put_stands =
-          subst (λ (zs : List Record). Sound n zs last (links + 1)) (sym (back_own m rs ts put_size))
-          (put_sound n (front m rs) ss free links rest u v put_was put_may.ends put_may.out put_one ts last put_two)
+      pub put_invariant : Left b (b.links + 1) ts last
+      put_invariant = record {
+        fits = omega (arith, length-append ts (past b), put_size);
+        sound = rw (back_own b ts put_size) (put_sound b.sound put_may.ends put_may.out put_one put_two);
+      }
 
-      pub put_records : back m rs ts ≡ put_in (take m rs) free u v ++ drop m rs
-      put_records =
-          back_is m rs ts (put_in (take m rs) free u v)
-          (et ∙ ((λ i. hung (es i) (er i) v u) ∙ ap (λ (zs : List Record). put_in zs free u v) (front_is m rs)))
+      pub put_links : chain_graph b.cards (take b.needed (back b ts)) ≡ with_link (graph_of b) u v
+      put_links = rw (back_own b ts put_size) (put_graph b.sound put_may.ends put_may.out put_one put_two)
 
-      pub put_links : chain_graph n (take m (back m rs ts)) ≡ with_link (chain_graph n (take m rs)) u v
-      put_links =
-          ap (chain_graph n) (back_own m rs ts put_size)
-          ∙ (put_graph n (front m rs) ss free links rest u v put_was put_may.ends put_may.out put_one ts last put_two
-          ∙ ap (λ (zs : List Record). with_link (chain_graph n zs) u v) (front_is m rs))
+      pub put_spare : free_records (take b.needed (back b ts)) last ≡ drop 2 (free_of b)
+      put_spare = rw (back_own b ts put_size) (put_free b.sound put_may.ends put_may.out put_one put_two)
 
-      pub put_spare : free_records (take m (back m rs ts)) last ≡ drop 2 (free_records (take m rs) free)
-      put_spare =
-          ap (λ (zs : List Record). free_records zs last) (back_own m rs ts put_size)
-          ∙ (put_free n (front m rs) ss free links rest u v put_was put_may.ends put_may.out put_one ts last put_two
-          ∙ ap (λ (zs : List Record). drop 2 (free_records zs free)) (front_is m rs))
+-- A take of u and v.
+module _ (b : ChainBook) (u v : ℕ) (may : None ≡ take_refusal (graph_of b) u v) where
+  take_may : Leaving b.cards (own b) b.free u v
+  take_may = leaving u v b.sound (sym may)
 
--- A take of u and v from a book of n cards on the first m of these records.
-module _ (n m : ℕ) (rs : List Record) (free links u v : ℕ) (fits : m ≤ length rs) (sound : Sound n (take m rs) free links)
-    (may : take_refusal (chain_graph n (take m rs)) u v ≡ None) where
-  take_was : Sound n (front m rs) free links
-  take_was = subst (λ (zs : List Record). Sound n zs free links) (sym (front_is m rs)) sound
+  pub take_some : 1 ≤ b.links
+  take_some = some_link b.sound take_may.ends take_may.held
 
-  take_may : Leaving n (front m rs) free u v
-  take_may = leaving n (front m rs) free links u v take_was (ap (λ (zs : List Record). take_refusal (chain_graph n zs) u v) (front_is m rs) ∙ may)
-
-  pub take_some : 1 ≤ links
-  take_some = some_link n (front m rs) free links u v take_was take_may.ends take_may.held
-
-  pub take_ready : Found (front m rs) u v
-  take_ready = record {
+  pub take_first : Found (own b) u v
+  take_first = record {
     head = omega (arith, take_may.chains.heads, take_may.ends.first);
-    runs = walkable n (front m rs) free u take_may.chains take_may.ends.first;
-    held = (held n (front m rs) free u v take_may.chains take_may.ends.first (sym (linked_holds n (front m rs) u v take_may.ends.first) ∙ take_may.held)).within;
+    runs = walkable (own b) u take_may.chains take_may.ends.first;
+    held = (held u v take_may.chains take_may.ends.first take_may.held).within;
   }
 
   -- after the first removal
-  module _ (ss : List Record) (gone : ℕ) (es : ss ≡ unhung (front m rs) free u v) (eg : gone ≡ found (front m rs) u v) where
-    take_one : Removed n (front m rs) ss free gone u v
+  module _ {ss : List Record} {gone : ℕ} (es : ss ≡ unhung (own b) b.free u v) (eg : gone ≡ found (own b) u v) where
+    take_one : Removed b.cards (own b) ss b.free gone u v
     take_one =
-        removed n (front m rs) free u v take_may.chains take_may.ends.first
-        (sym (linked_holds n (front m rs) u v take_may.ends.first) ∙ take_may.held) (omega (arith, take_may.fit)) ss gone es eg
+        removed u v take_may.chains take_may.ends.first
+        take_may.held (omega (arith, take_may.fit)) ss gone es eg
 
-    take_still : holds (partner_of ss) u (chain ss v) ≡ true
-    take_still = take_held n (front m rs) ss free links gone u v take_was take_may.ends take_may.held take_one
+    take_still : chain_linked b.cards ss v u ≡ true
+    take_still = take_held b.sound take_may.ends take_may.held take_one
 
-    pub take_again : Found ss v u
-    take_again = record {
+    pub take_second : Found ss v u
+    take_second = record {
       head = omega (arith, take_one.chains.heads, take_may.ends.second);
-      runs = walkable n ss gone v take_one.chains take_may.ends.second;
-      held = (held n ss gone v u take_one.chains take_may.ends.second take_still).within;
+      runs = walkable ss v take_one.chains take_may.ends.second;
+      held = (held v u take_one.chains take_may.ends.second take_still).within;
     }
 
     -- after the second
-    module _ (ts : List Record) (last : ℕ) (et : ts ≡ unhung ss gone v u) (el : last ≡ found ss v u) where
-      take_two : Removed n ss ts gone last v u
+    module _ {ts : List Record} {last : ℕ} (et : ts ≡ unhung ss gone v u) (el : last ≡ found ss v u) where
+      take_two : Removed b.cards ss ts gone last v u
       take_two =
-          removed n ss gone v u take_one.chains take_may.ends.second take_still
+          removed v u take_one.chains take_may.ends.second take_still
           (omega (arith, take_may.fit, take_one.size, ap length take_one.spare)) ts last et el
 
-      pub take_size : length ts ≡ m
-      take_size = take_two.size ∙ (take_one.size ∙ front_length m rs fits)
+      take_size : length ts ≡ b.needed
+      take_size = take_two.size ∙ (take_one.size ∙ own_length b)
 
-      pub take_stands : Sound n (take m (back m rs ts)) last (links - 1)
-      take_stands =
-          subst (λ (zs : List Record). Sound n zs last (links - 1)) (sym (back_own m rs ts take_size))
-          (take_sound n (front m rs) ss free links gone u v take_was take_may.ends take_may.held take_one ts last take_two)
+      pub take_invariant : Left b (b.links - 1) ts last
+      take_invariant = record {
+        fits = omega (arith, length-append ts (past b), take_size);
+        sound = rw (back_own b ts take_size) (take_sound b.sound take_may.ends take_may.held take_one take_two);
+      }
 
-      pub take_records : back m rs ts ≡ taken_out (take m rs) free u v ++ drop m rs
-      take_records =
-          back_is m rs ts (taken_out (take m rs) free u v)
-          (et ∙ ((λ i. unhung (es i) (eg i) v u) ∙ ap (λ (zs : List Record). taken_out zs free u v) (front_is m rs)))
+      pub take_links : chain_graph b.cards (take b.needed (back b ts)) ≡ without_link (graph_of b) u v
+      take_links = rw (back_own b ts take_size) (take_graph b.sound take_may.ends take_may.held take_one take_two)
 
-      pub take_links : chain_graph n (take m (back m rs ts)) ≡ without_link (chain_graph n (take m rs)) u v
-      take_links =
-          ap (chain_graph n) (back_own m rs ts take_size)
-          ∙ (take_graph n (front m rs) ss free links gone u v take_was take_may.ends take_may.held take_one ts last take_two
-          ∙ ap (λ (zs : List Record). without_link (chain_graph n zs) u v) (front_is m rs))
-
-      pub take_spare : drop 2 (free_records (take m (back m rs ts)) last) ≡ free_records (take m rs) free
-      take_spare =
-          ap (λ (zs : List Record). drop 2 (free_records zs last)) (back_own m rs ts take_size)
-          ∙ (take_free n (front m rs) ss free links gone u v take_was take_may.ends take_may.held take_one ts last take_two
-          ∙ ap (λ (zs : List Record). free_records zs free) (front_is m rs))
+      pub take_spare : drop 2 (free_records (take b.needed (back b ts)) last) ≡ free_of b
+      take_spare = rw (back_own b ts take_size) (take_free b.sound take_may.ends take_may.held take_one take_two)

@@ -1,5 +1,4 @@
 pub mod Runs
-pub mod Once
 pub mod Walks
 pub mod Changes
 pub mod Holdings

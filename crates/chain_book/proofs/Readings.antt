@@ -1,23 +1,23 @@
 -- What a walk along a chain answers about the graph.
-use Rattle.std.proofs.Common.{◌≡◌, ℕ, ◌<◌, ◌≤◌, Bool, false, ltb, ◌⊎◌, List, length, None, sym, refl, subst, inl, inr}
+use Rattle.std.proofs.Common.{◌≡◌, ℕ, ◌<◌, ◌≤◌, false, ◌⊎◌, List, length, None, sym, inl, inr, arith}
+use Rattle.std.proofs.lemmas.Bool.Decides.{nat_tests}
 use mathlib.Core.Path.{fun_ext}
 use Rattle.std.proofs.lemmas.List.{nil_from_length}
-use Rattle.std.proofs.lemmas.Bool.{le-ltb, and_left, and_right}
 use Rattle.books.specs.Books.{next_partner}
-use Rattle.books.proofs.Partners.{Lowest, lowest_next}
+use Rattle.books.proofs.Partners.{lowest_next}
 use Rattle.chain_book.specs.declared.record.Record.{Record}
 use Rattle.chain_book.specs.Records.{partner_of, chain}
-use Rattle.chain_book.specs.Meaning.{holds, chain_linked, chain_graph}
+use Rattle.chain_book.specs.Meaning.{chain_linked, chain_graph}
 use Rattle.chain_book.specs.Order.{Sound}
 use Rattle.chain_book.specs.Steps.{onward, first_partner}
 use Rattle.chain_book.proofs.Holdings.{chain_lowest}
-use Rattle.chain_book.proofs.Writes.{linked_holds}
+use Rattle.chain_book.proofs.Memories.{linked_holds}
 
 pub chain_next : (n : ℕ) (rs : List Record) (free links u w : ℕ) → Sound n rs free links → 1 ≤ length rs → u < n
     → first_partner (partner_of rs) (onward (partner_of rs) w (chain rs u)) ≡ next_partner (chain_graph n rs) u w
 chain_next n rs free links u w S h lu =
     lowest_next (chain_graph n rs) S.lawful u w _
-    (subst (λ (f : ℕ → Bool). Lowest f w (first_partner (partner_of rs) (onward (partner_of rs) w (chain rs u)))) (fun_ext (λ v. sym (linked_holds n rs u v lu)))
+    (rw (← fun_ext (λ v. sym (linked_holds n rs u v lu)))
     (chain_lowest n (partner_of rs) 0 w (chain rs u) ((S.chains h).ascends u lu)))
 
 -- a number that is no card, and a card that has no head, has no partner
@@ -25,5 +25,5 @@ pub none_next : (n : ℕ) (rs : List Record) (free links u w : ℕ) → Sound n 
 none_next n rs free links u w S c = lowest_next (chain_graph n rs) S.lawful u w None (λ v _. no c v)
   where
     no : (n ≤ u) ⊎ (length rs ≡ 0) → (v : ℕ) → chain_linked n rs u v ≡ false
-    no (inl g) v = and_left (ltb u n) (holds (partner_of rs) v (chain rs u)) (le-ltb u n g)
-    no (inr e) v = subst (λ (zs : List Record). chain_linked n zs u v ≡ false) (sym (nil_from_length rs e)) (and_right (ltb u n) false refl)
+    no (inl g) v = grind (arith, nat_tests)
+    no (inr e) v = rw (nil_from_length rs e) (grind (arith, nat_tests))

@@ -1,6 +1,7 @@
 -- Runs of records from one to the next, up to the end mark.
-use Rattle.std.proofs.Common.{◌≡◌, ℕ, zero, suc, ◌+◌, ◌<◌, ◌≤◌, false, eqb, ltb, ◌⊎◌, List, [], ◌∷◌, ◌++◌, length, sym, refl, ap, ◌∙◌, subst, inl, inr, ⊎_elim, arith}
-use Rattle.std.proofs.lemmas.Bool.{eq-eqb, ne_eqb, lt-ltb, le-ltb, cond-true, cond-false, cases_Bool}
+use Rattle.std.proofs.Common.{◌≡◌, ℕ, zero, suc, ◌+◌, ◌<◌, ◌≤◌, eqb, ◌⊎◌, List, [], ◌∷◌, ◌++◌, length, sym, refl, ap, ◌∙◌, subst, inl, inr, ⊎_elim, arith}
+use Rattle.std.proofs.lemmas.Bool.Decides.{nat_tests}
+use Rattle.std.proofs.lemmas.Bool.{ne_eqb, cond-false}
 use Rattle.chain_book.specs.Records.{follow}
 use Rattle.chain_book.specs.Order.{In, Distinct, Run, Ascend}
 use Rattle.chain_book.specs.Steps.{lower, onward, last_or}
@@ -20,7 +21,7 @@ in_cases k (a ∷ xs) ys (inl e) = inl (inl e)
 in_cases k (a ∷ xs) ys (inr h) = ⊎_elim (λ x. inl (inr x)) (λ x. inr x) (in_cases k xs ys h)
 
 pub in_same : (k l : ℕ) (js : List ℕ) → k ≡ l → In k js → In l js
-in_same k l js e h = subst (λ (x : ℕ). In x js) e h
+in_same k l js e h = grind (arith, nat_tests)
 
 pub last_in : (u : ℕ) (xs : List ℕ) → In (last_or u xs) (u ∷ xs)
 last_in u [] = inl refl
@@ -33,7 +34,7 @@ run_same lo hi nx ny i (j ∷ js) same r = (
   r.0,
   r.1,
   r.2,
-  subst (λ (x : ℕ). Run lo hi ny x js) (sym (same j (inl refl))) (run_same lo hi nx ny (nx j) js (λ k h. same k (inr h)) r.3),
+  rw (same j (inl refl)) (run_same lo hi nx ny (nx j) js (λ k h. same k (inr h)) r.3),
 )
 
 -- the records of a run may lie further apart
@@ -61,7 +62,7 @@ run_splice lo hi nx ny f u [] ys d out l h here on same r = (
   here,
   l,
   h,
-  subst (λ (x : ℕ). Run lo hi ny x ys) (sym on)
+  rw on
       (run_same lo hi nx ny (nx u) ys (λ j i. same j (λ e. d.0 (in_same j u ys e i)) (λ e. out (inr (in_same j f ys e i)))) r),
 )
 run_splice lo hi nx ny f u (a ∷ xs) ys d out l h here on same r = (
@@ -78,7 +79,7 @@ pub run_cut : (lo hi : ℕ) (nx ny : ℕ → ℕ) (g u : ℕ) (xs ys : List ℕ)
     → ((j : ℕ) → (j ≡ last_or u xs → ⊥) → (j ≡ g → ⊥) → ny j ≡ nx j)
     → Run lo hi nx (nx u) (xs ++ g ∷ ys) → Run lo hi ny (ny u) (xs ++ ys)
 run_cut lo hi nx ny g u [] ys d here same r =
-    subst (λ (x : ℕ). Run lo hi ny x ys) (sym here)
+    rw here
     (run_same lo hi nx ny (nx g) ys (λ j i. same j (λ e. d.0 (inr (in_same j u ys e i))) (λ e. d.1.0 (in_same j g ys e i))) r.3)
 run_cut lo hi nx ny g u (a ∷ xs) ys d here same r = (
   same u (λ e. d.0 (in_same (last_or a xs) u (a ∷ xs ++ g ∷ ys) (sym e) (in_left (last_or a xs) (a ∷ xs) (g ∷ ys) (last_in a xs))))
@@ -91,23 +92,13 @@ run_cut lo hi nx ny g u (a ∷ xs) ys d here same r = (
 -- following the records finds the run, if it may take enough steps
 pub follow_run : (lo hi : ℕ) (next : ℕ → ℕ) (i : ℕ) (js : List ℕ) (k : ℕ) → 1 ≤ lo → Run lo hi next i js → length js ≤ k → follow k next i ≡ js
 follow_run lo hi next i [] zero pos r l = refl
-follow_run lo hi next i [] (suc k) pos r l = cond-true (eqb i 0) [] (i ∷ follow k next (next i)) (eq-eqb i 0 r)
+follow_run lo hi next i [] (suc k) pos r l = grind (arith, nat_tests)
 follow_run lo hi next i (j ∷ js) zero pos r l = absurd (omega arith)
-follow_run lo hi next i (j ∷ js) (suc k) pos r l =
-    let ne : eqb i 0 ≡ false = ne_eqb i 0 (λ e. omega (arith, r.0, r.1)) in
-    let rest : follow k next (next j) ≡ js = follow_run lo hi next (next j) js k pos r.3 (omega arith) in
-    cond-false (eqb i 0) [] (i ∷ follow k next (next i)) ne ∙ (ap (λ (x : ℕ). x ∷ follow k next (next x)) r.0 ∙ ap (λ (zs : List ℕ). j ∷ zs) rest)
+follow_run lo hi next i (j ∷ js) (suc k) pos r l = grind (arith, nat_tests, follow_run lo hi next (next j) js k pos r.3 (omega arith))
 
 pub follow_length : (k : ℕ) (next : ℕ → ℕ) (i : ℕ) → length (follow k next i) ≤ k
 follow_length zero next i = omega arith
-follow_length (suc k) next i = elim (cases_Bool (eqb i 0)) [
-  | inl e ↦ rw e (omega arith)
-  | inr e ↦ rw e (omega (arith, follow_length k next (next i)))
-]
-
-pub follow_end : (k : ℕ) (next : ℕ → ℕ) (i : ℕ) → i ≡ 0 → follow k next i ≡ []
-follow_end zero next i e = refl
-follow_end (suc k) next i e = cond-true (eqb i 0) [] (i ∷ follow k next (next i)) (eq-eqb i 0 e)
+follow_length (suc k) next i = grind (arith, nat_tests, follow_length k next (next i))
 
 -- one step along a run
 pub record Onward (lo hi : ℕ) (next : ℕ → ℕ) (i : ℕ) : Type 0 where
@@ -125,25 +116,15 @@ step lo (suc k) next i pos ne r =
     follow_run lo (suc k) next (next i) (follow k next (next i)) (suc k) pos q.3 (omega (arith, follow_length k next (next i))) in
     record {
       first = e ∙ ap (λ (zs : List ℕ). i ∷ zs) (sym s);
-      runs = subst (λ (zs : List ℕ). Run lo (suc k) next (next i) zs) (sym s) q.3;
+      runs = rw s q.3;
       low = q.1;
       high = q.2;
     }
 
--- a walk for w goes on past a record whose partner is below w, and stops before any other
-pub lower_more : (pt : ℕ → ℕ) (w u j : ℕ) (js : List ℕ) → pt j < w → last_or u (lower pt w (j ∷ js)) ≡ last_or j (lower pt w js)
-lower_more pt w u j js h = ap (last_or u) (cond-true (ltb (pt j) w) (j ∷ lower pt w js) [] (lt-ltb (pt j) w h))
-
-pub lower_none : (pt : ℕ → ℕ) (w u j : ℕ) (js : List ℕ) → w ≤ pt j → last_or u (lower pt w (j ∷ js)) ≡ u
-lower_none pt w u j js h = ap (last_or u) (cond-false (ltb (pt j) w) (j ∷ lower pt w js) [] (le-ltb (pt j) w h))
-
 -- the walk splits the chain
 pub whole : (pt : ℕ → ℕ) (w : ℕ) (js : List ℕ) → lower pt w js ++ onward pt w js ≡ js
 whole pt w [] = refl
-whole pt w (j ∷ js) = elim (cases_Bool (ltb (pt j) w)) [
-  | inl e ↦ rw e (ap (λ (zs : List ℕ). j ∷ zs) (whole pt w js))
-  | inr e ↦ rw e
-]
+whole pt w (j ∷ js) = grind (arith, nat_tests, whole pt w js)
 
 -- the record at which the walk stops is the head or one of the chain
 pub stop_cases : (u : ℕ) (pt : ℕ → ℕ) (w : ℕ) (js : List ℕ) → (last_or u (lower pt w js) ≡ u) ⊎ In (last_or u (lower pt w js)) js
@@ -170,7 +151,7 @@ pub ascend_same : (n : ℕ) (pt qt : ℕ → ℕ) (low : ℕ) (js : List ℕ) �
 ascend_same n pt qt low [] same a = tt
 ascend_same n pt qt low (j ∷ js) same a =
     let e : qt j ≡ pt j = same j (inl refl) in
-    (omega (arith, a.0), omega (arith, a.1), ascend_same n pt qt (suc (qt j)) js (λ k h. same k (inr h)) (subst (λ (x : ℕ). Ascend n pt (suc x) js) (sym e) a.2))
+    (omega (arith, a.0), omega (arith, a.1), ascend_same n pt qt (suc (qt j)) js (λ k h. same k (inr h)) (rw e a.2))
 
 pub ascend_lower : (n : ℕ) (pt : ℕ → ℕ) (low less : ℕ) (js : List ℕ) → less ≤ low → Ascend n pt low js → Ascend n pt less js
 ascend_lower n pt low less [] l a = tt

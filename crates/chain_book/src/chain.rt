@@ -2,11 +2,18 @@
 //
 // Record 0 is a head, so no chain ever goes on to it, and 0 marks the end of a chain. `free` is the first of the
 // free records, which are chained too.
+//
+// It is a rule of the project that functions which take the lent slice do this work, and that a record is a partner and
+// the number of the next one, of 16 bits each. So the end is a number, `walk` goes from number to number, `records` and
+// `free` are passed on with the card and the partner, and what must hold of them, that u has a head and a chain, is asked
+// by each function. Numbers are widened by `as`, through which the check sees them: with `usize::from` some of the proofs
+// here did not close.
 ghost use Rattle.std.specs.Prelude.{◌≡◌, ◌<◌, length};
 ghost use Rattle.chain_book.specs.Records.{next_of, partner_of, chain};
 ghost use Rattle.chain_book.specs.Steps.{Walkable, onward, stop, found, first_partner, pointed, spliced, cut, hung, unhung};
 
 use super::record::Record;
+use std::mem;
 
 // the mark at the end of a chain
 pub(crate) const END: u16 = 0;
@@ -35,11 +42,9 @@ pub(crate) fn partner_from(records: &[Record], u: u16, w: u16) -> Option<u16>
     ensures { result ≡ first_partner (partner_of records.now) (onward (partner_of records.now) w (chain records.now u)) }
 {
     let at = walk(records, u, w);
-    let next = records[at as usize].next;
-    if next == END {
-        None
-    } else {
-        Some(records[next as usize].partner)
+    match records[at as usize].next {
+        END => None,
+        next => Some(records[next as usize].partner),
     }
 }
 
@@ -49,9 +54,8 @@ fn take_free(records: &[Record], free: &mut u16) -> u16
     ensures taken { result ≡ free.old }
     ensures free { free.new ≡ next_of records.now free.old }
 {
-    let first = *free;
-    *free = records[first as usize].next;
-    first
+    let next = records[*free as usize].next;
+    mem::replace(free, next)
 }
 
 // Makes the record `gone`, which no chain has, the first of the free ones.
@@ -60,8 +64,7 @@ fn give_back(records: &mut [Record], free: &mut u16, gone: u16)
     ensures records { records.new ≡ pointed records.old gone free.old }
     ensures free { free.new ≡ gone }
 {
-    records[gone as usize].next = *free;
-    *free = gone;
+    records[gone as usize].next = mem::replace(free, gone);
 }
 
 // Has the record `fresh` hold w, and come right after the record `at`.

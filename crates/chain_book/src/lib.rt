@@ -13,10 +13,7 @@
 mod book;
 mod chain;
 mod layout;
-mod parts;
-mod reading;
 mod record;
-mod writing;
 
 pub use book::ChainBook;
 pub use layout::check;

@@ -1,18 +1,15 @@
 -- The list names as many links as it has pairs.
-use Rattle.std.proofs.Common.{◌≡◌, ℕ, zero, suc, ◌+◌, ◌<◌, ◌≤◌, Bool, true, false, ltb, List, sym, refl, ap, ◌∙◌, arith}
-use Rattle.std.proofs.lemmas.Bool.{le-ltb, cond-false, eq-eqb, and_from, or_right}
+use Rattle.std.proofs.Common.{◌≡◌, ℕ, zero, suc, ◌+◌, ◌<◌, ◌≤◌, Bool, true, false, List, refl, arith}
+use Rattle.std.proofs.lemmas.Bool.Decides.{nat_tests}
 use Rattle.books.specs.Sums.{pair_sum, one}
 use Rattle.books.specs.Graphs.{link_count}
 use Rattle.books.proofs.Sums.{pairs_point, pairs_none, tri_small}
-use Rattle.books.proofs.Links.{or_none, and_none, links_most}
+use Rattle.books.proofs.Links.{links_most}
 use Rattle.closed_book.specs.Lists.{pair_count, pair_at, suits}
 use Rattle.closed_book.specs.Meaning.{same, any, lower_first, closed_graph, suits_cards}
 use Rattle.closed_book.proofs.Tests.{any_none}
 use Rattle.closed_book.proofs.Pairs.{before_other}
 use Rattle.closed_book.proofs.Places.{cards_at, rises}
-
-ordered : (v u : ℕ) → u < v → lower_first v u ≡ (u, v)
-ordered v u l = let m : u ≤ v = omega arith in cond-false (ltb v u) (v, u) (u, v) (le-ltb v u m)
 
 -- p stands at one of the list's first k places
 abbrev pub stands_below : List ℕ → ℕ → ℕ × ℕ → Bool
@@ -25,22 +22,12 @@ weight_below xs k v u = one (stands_below xs k (lower_first v u))
 not_below : (n : ℕ) (xs : List ℕ) (k : ℕ) → suits n xs ≡ true → k < pair_count xs → stands_below xs k (pair_at xs k) ≡ false
 not_below n xs k s l = any_none _ k (λ j m. before_other (pair_at xs j) (pair_at xs k) (rises n xs j k s m l))
 
-at_last : (xs : List ℕ) (k : ℕ) → stands_below xs (suc k) (pair_at xs k) ≡ true
-at_last xs k =
-    let p : ℕ × ℕ = pair_at xs k in
-    or_right (stands_below xs k p) (same p p) (and_from _ _ (eq-eqb p.0 p.0 refl) (eq-eqb p.1 p.1 refl))
-
 -- the place k adds its own link and no other
 adds_own : (n : ℕ) (xs : List ℕ) (k v u : ℕ) → suits n xs ≡ true → k < pair_count xs → lower_first v u ≡ pair_at xs k → weight_below xs (suc k) v u ≡ weight_below xs k v u + 1
-adds_own n xs k v u s l e =
-    let held : stands_below xs (suc k) (lower_first v u) ≡ true = ap (stands_below xs (suc k)) e ∙ at_last xs k in
-    let new : stands_below xs k (lower_first v u) ≡ false = ap (stands_below xs k) e ∙ not_below n xs k s l in
-    omega (arith, ap one held, ap one new)
+adds_own n xs k v u s l e = rw e (grind (arith, nat_tests, not_below n xs k s l))
 
 adds_no_other : (xs : List ℕ) (k v u : ℕ) → u < v → (v ≡ (pair_at xs k).1 → u ≡ (pair_at xs k).0 → ⊥) → weight_below xs (suc k) v u ≡ weight_below xs k v u
-adds_no_other xs k v u l ne =
-    let other : same (pair_at xs k) (lower_first v u) ≡ false = ap (same (pair_at xs k)) (ordered v u l) ∙ and_none _ _ u v (λ z. ne (sym z.1) (sym z.0)) in
-    ap one (or_none (stands_below xs k (lower_first v u)) (same (pair_at xs k) (lower_first v u)) other)
+adds_no_other xs k v u l ne = grind (arith, nat_tests)
 
 pub first_links : (n : ℕ) (xs : List ℕ) (k : ℕ) → suits n xs ≡ true → k ≤ pair_count xs → pair_sum (weight_below xs k) n ≡ k
 first_links n xs zero s l = pairs_none (weight_below xs 0) n (λ v u _ _. refl)
@@ -48,7 +35,7 @@ first_links n xs (suc k) s l =
     let c = cards_at n xs k s l in
     let hi : ℕ = (pair_at xs k).1 in
     let lo : ℕ = (pair_at xs k).0 in
-    let own = adds_own n xs k hi lo s l (ordered hi lo c.0) in
+    let own = adds_own n xs k hi lo s l (grind (arith, nat_tests)) in
     let more = pairs_point (weight_below xs (suc k)) (weight_below xs k) n hi lo 1 c.1 c.0 own (adds_no_other xs k) in
     omega (arith, more, first_links n xs k s (omega arith))
 

@@ -1,4 +1,5 @@
 pub mod Tests
 pub mod Pairs
+pub mod Chunks
 pub mod Places
 pub mod Counts

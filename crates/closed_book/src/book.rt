@@ -1,12 +1,13 @@
 // A reading book on a borrowed list of links, which it never changes.
 // `new` reads the list once; `cards` and `links` read none of it; `linked` halves the list, so it
-// reads at most 19 pairs; `next_partner` asks `linked` of each card from w on, up to its answer.
+// reads at most 20 pairs; `next_partner` asks `linked` of each card from w on, up to its answer.
 ghost use Rattle.std.specs.Prelude.{◌≡◌, true, []};
+ghost use Rattle.std.specs.Simd.{first_chunks};
 ghost use Rattle.books.specs.Refusals.{unless_refused};
-ghost use Rattle.closed_book.specs.Lists.{suits, list_refusal};
-ghost use Rattle.closed_book.specs.Meaning.{lower_first, stands, closed_book};
+ghost use Rattle.closed_book.specs.Lists.{pair_count, suits, list_refusal};
+ghost use Rattle.closed_book.specs.Meaning.{closed_graph, closed_sound};
 
-use super::list::{check, comes_before, pair_at};
+use super::list::check;
 use books::ReadingBook;
 
 #[derive(Drop)]
@@ -23,54 +24,38 @@ impl<'a> ClosedBook<'a> {
         ensures cards { result.cards ≡ unless_refused (list_refusal cards list.now) 1 cards }
         ensures links { result.list.now ≡ unless_refused (list_refusal cards list.now) [] list.now }
     {
-        match check(cards, list) {
-            Ok(()) => ClosedBook { cards, list },
-            Err(_) => ClosedBook {
+        if check(cards, list).is_ok() {
+            ClosedBook { cards, list }
+        } else {
+            ClosedBook {
                 cards: 1,
                 list: &[],
-            },
+            }
         }
     }
 
-    // By halving: what stands below `low` comes before the pair, what stands from `high` on after it.
-    fn holds(&self, pair: (u16, u16)) -> bool
-        ensures { result ≡ stands self.now.list.now pair }
+    // The links, each as its two cards, the lower first.
+    fn pairs(&self) -> &[[u16; 2]]
+        ensures { result.now ≡ first_chunks 2 (pair_count self.now.list.now) self.now.list.now }
     {
-        let mut low = 0;
-        let mut high = self.list.len() / 2;
-        while low < high {
-            let middle = low + (high - low) / 2;
-            let here = pair_at(self.list, middle);
-            if comes_before(here, pair) {
-                low = middle + 1;
-            } else if comes_before(pair, here) {
-                high = middle;
-            } else {
-                return true;
-            }
-        }
-        false
+        self.list.as_chunks().0
     }
 }
 
 impl ReadingBook for ClosedBook<'_> {
-    ghost book = { λ b. closed_book b.cards b.list.now b.ok };
+    ghost graph = { λ b. closed_graph b.cards b.list.now };
+
+    ghost sound = { λ b. closed_sound b.cards b.list.now b.ok };
 
     fn cards(&self) -> u16 {
         self.cards
     }
 
     fn links(&self) -> u32 {
-        (self.list.len() / 2) as u32
+        self.pairs().len() as u32
     }
 
     fn linked(&self, u: u16, v: u16) -> bool {
-        self.holds(lower_first(u, v))
+        self.pairs().binary_search(&[u.min(v), u.max(v)]).is_ok()
     }
-}
-
-fn lower_first(u: u16, v: u16) -> (u16, u16)
-    ensures { result ≡ lower_first u v }
-{
-    if u < v { (u, v) } else { (v, u) }
 }

@@ -1,15 +1,17 @@
 -- What the program does with what it read.
-use Rattle.std.specs.Prelude.{◌≡◌, ℕ, List, Some, None, Ok, Err, Option, Result}
+use Rattle.std.specs.Prelude.{◌≡◌, ℕ, List, [], ◌∷◌, ◌++◌, codes, decimal, Some, None, Ok, Err, Option, Result}
+use Rattle.std.specs.List.{join_by}
 use Rattle.books.specs.declared.refusal.Refusal.{Refusal}
 use Rattle.books.specs.Graphs.{Graph, with_link}
-use Rattle.books.specs.Refusals.{put_refusal, unless_refused}
+use Rattle.books.specs.Refusals.{refusal_number, refusal_words, put_refusal, unless_refused}
 use Rattle.bit_book.specs.Meaning.{check_refusal}
 use Rattle.peel.specs.Tolerances.{tolerance_refusal}
 use Rattle.link_text.specs.declared.fault.Fault.{Fault}
 use Rattle.link_text.specs.declared.line.Setup.{Setup}
 use Rattle.link_text.specs.Lines.{link_in}
+use Rattle.link_text.specs.Words.{fault_words}
 use Rattle.findgroup.specs.declared.trouble.Trouble.{Trouble}
-use Rattle.findgroup.specs.declared.trouble.Trouble.TheVariants.{BadSetup, BadLink, Input, Output}
+use Rattle.findgroup.specs.declared.trouble.Trouble.TheVariants.{BadSetup, BadLink, Refused, Input, Output}
 
 -- the trouble is that the first line of the input cannot be read
 abbrev pub IsFirstUnread : Trouble → Type 0
@@ -49,3 +51,15 @@ after_line g places line = tried g places (link_in line)
 abbrev pub Goes : ℕ → Graph → ℕ → Result (ℕ × ℕ) Fault → Result (Unit {0}) Trouble → Type 0
 Goes number g places (Err f) r = r ≡ Err (BadLink number f)
 Goes number g places (Ok x) r = put_refusal g places x.0 x.1 ≡ None → r ≡ Ok tt
+
+-- what is told of a trouble; the words of the machine's errors are not stated
+abbrev pub trouble_text : Trouble → Option (List ℕ)
+trouble_text (BadSetup fault) = Some (codes "line 1: expected `n p q`, the number of cards and the tolerance, with one space between two numbers: " ++ fault_words fault)
+trouble_text (BadLink line fault) = Some (codes "line " ++ (decimal line ++ (codes ": expected `u v`, two cards, with one space between the numbers: " ++ fault_words fault)))
+trouble_text (Refused refusal) = Some (codes "line 1: refused " ++ (decimal (refusal_number refusal) ++ (codes ": " ++ refusal_words refusal)))
+trouble_text (Input line error) = None
+trouble_text (Output error) = None
+
+-- cards in decimal, with one space between two
+abbrev pub cards_text : List ℕ → List ℕ
+cards_text cards = join_by decimal (32 ∷ []) cards

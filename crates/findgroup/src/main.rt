@@ -23,20 +23,19 @@ mod trouble;
 
 ghost use Rattle.std.specs.Prelude.{◌≡◌, length, IfErr, IfOk};
 ghost use Rattle.std.specs.Result.{result_err};
-ghost use Rattle.books.specs.Books.{Book};
 ghost use Rattle.link_text.specs.Lines.{link_in, setup_in};
 ghost use Rattle.findgroup.specs.Steps.{IsFirstUnread, IsUnwritten, setup_read, setup_refusal, after_line, Goes};
 
 use bit_book::{BitBook, check};
 use books::{ReadingBook, Refusal, WritingBook};
 use found::{Cards, group_of};
-use link_text::{Setup, read_link, read_setup, words_of};
+use link_text::{Setup, read_link, read_setup};
 use peel::Tolerance;
-use std::io::{BufRead, BufReader, Lines, Stdin};
+use std::io::{self, BufRead, BufReader, Lines, Stdin};
 use std::process::ExitCode;
 use trouble::Trouble;
 
-// Enough for the bits of 1,024 cards.
+// Enough for the bits of 1,024 cards. It is fixed, as the list for the group is, so that neither can run out.
 const MEMORY: usize = 65_472;
 
 type Input = Lines<BufReader<Stdin>>;
@@ -64,29 +63,29 @@ fn run(rt: &HostRuntime) -> Result<(), Trouble> {
 fn input(rt: &HostRuntime) -> Result<Input, Trouble>
     ensures { IfErr result IsFirstUnread }
 {
-    match BufReader::new(rt.alloc(), rt.stdin()) {
-        Ok(reader) => Ok(reader.lines(rt.alloc())),
-        Err(error) => Err(Trouble::Input { line: 1, error }),
-    }
+    BufReader::new(rt.alloc(), rt.stdin())
+        .map(|reader| reader.lines(rt.alloc()))
+        .map_err(first_unread)
 }
 
 // The setup. An input without a line reads as an empty one.
 fn first_line(lines: &mut Input) -> Result<Setup, Trouble> {
-    match lines.next() {
-        None => setup_of(b""),
-        Some(Ok(line)) => setup_of(line.as_bytes()),
-        Some(Err(error)) => Err(Trouble::Input { line: 1, error }),
-    }
+    let line = lines.next().transpose().map_err(first_unread)?;
+    setup_of(line.as_deref().unwrap_or_default().as_bytes())
+}
+
+// The trouble that the first line cannot be read.
+fn first_unread(error: io::Error) -> Trouble
+    ensures { IsFirstUnread result }
+{
+    Trouble::Input { line: 1, error }
 }
 
 // The setup that the line is, or what is wrong with it.
 fn setup_of(line: &[u8]) -> Result<Setup, Trouble>
     ensures { result ≡ setup_read (setup_in line.now) }
 {
-    match read_setup(line) {
-        Ok(setup) => Ok(setup),
-        Err(fault) => Err(Trouble::BadSetup(fault)),
-    }
+    read_setup(line).map_err(Trouble::BadSetup)
 }
 
 // The tolerance, where a book of so many cards can stand on the memory and the tolerance keeps its rule.
@@ -98,7 +97,7 @@ fn suited(setup: Setup, memory: &[u8]) -> Result<Tolerance, Refusal>
     Tolerance::new(setup.p, setup.q)
 }
 
-// Puts the links in, and tells of the group.
+// Puts the links in, and tells of the group. `rt` stands for the machine, and goes to whatever reads or prints.
 fn find<B: WritingBook + Drop>(
     rt: &HostRuntime,
     lines: Input,
@@ -113,50 +112,39 @@ fn find<B: WritingBook + Drop>(
         "group {} cards, {} links, {} peels",
         group.cards, group.links, group.peels
     )?;
-    println!(rt; "{}", Cards(&list[0..group.cards as usize]))?;
+    println!(rt; "{}", Cards(&list[..usize::from(group.cards)]))?;
     Ok(())
 }
 
 // Puts the link of each line in. The first link stands on the second line.
 fn put_all<B: WritingBook>(rt: &HostRuntime, lines: Input, book: &mut B) -> Result<(), Trouble> {
-    let mut number: u64 = 1;
+    let mut line: u64 = 1;
     for read in lines {
-        number = number.saturating_add(1);
-        match read {
-            Ok(line) => put_line(rt, number, line.as_bytes(), book)?,
-            Err(error) => return Err(Trouble::Input {
-                line: number,
-                error,
-            }),
-        }
+        // counted by hand, for a range to zip with would end, and the reading with it
+        line = line.saturating_add(1);
+        let text = read.map_err(|error| Trouble::Input { line, error })?;
+        put_line(rt, line, text.as_bytes(), book)?;
     }
     Ok(())
 }
 
-// Puts the link of a line in, or tells why it is refused.
+// Puts the link of the line of that number in, or tells why it is refused.
 fn put_line<B: WritingBook>(
     rt: &HostRuntime,
-    number: u64,
-    line: &[u8],
+    line: u64,
+    text: &[u8],
     book: &mut B,
 ) -> Result<(), Trouble>
-    ensures links { (B.ReadingBook.book book.new).graph ≡ after_line (B.ReadingBook.book book.old).graph (B.WritingBook.room book.old) line.now }
-    ensures places { B.WritingBook.room book.new ≡ B.WritingBook.room book.old }
-    ensures answer { Goes number (B.ReadingBook.book book.old).graph (B.WritingBook.room book.old) (link_in line.now) result }
-    ensures output { IfOk (link_in line.now) (λ _. IfErr result IsUnwritten) }
+    ensures links { B.graph book.new ≡ after_line (B.graph book.old) (B.room book.old) text.now }
+    ensures places { B.room book.new ≡ B.room book.old }
+    ensures answer { Goes line (B.graph book.old) (B.room book.old) (link_in text.now) result }
+    ensures output { IfOk (link_in text.now) (λ _. IfErr result IsUnwritten) }
 {
-    let (u, v) = match read_link(line) {
-        Ok(link) => link,
-        Err(fault) => return Err(Trouble::BadLink {
-            line: number,
-            fault,
-        }),
-    };
+    let (u, v) = read_link(text).map_err(|fault| Trouble::BadLink { line, fault })?;
     if let Err(refusal) = book.put(u, v) {
         println!(rt;
-            "line {number}: {u} {v} refused {}: {}",
-            refusal.number(),
-            words_of(refusal)
+            "line {line}: {u} {v} refused {}: {refusal}",
+            refusal.number()
         )?;
     }
     Ok(())

@@ -1,12 +1,14 @@
 // What ends the program without a result.
 ghost use Rattle.std.specs.Prelude.{◌≡◌};
 ghost use Rattle.findgroup.specs.declared.trouble.Trouble.TheVariants.{Output, Refused};
+ghost use Rattle.findgroup.specs.Steps.{trouble_text};
 
 use books::Refusal;
-use link_text::{Fault, words_of};
+use link_text::Fault;
+use std::error::Error;
 use std::{fmt, io};
 
-#[derive(Clone, Copy)]
+#[derive(Clone, Copy, Debug)]
 pub enum Trouble {
     // the first line does not read as a setup
     BadSetup(Fault),
@@ -20,6 +22,7 @@ pub enum Trouble {
     Output(io::Error),
 }
 
+// The two conversions are written out, since a clause says which trouble each gives: a derived one would state nothing.
 impl From<Refusal> for Trouble {
     ghost from_gives = { λ refusal trouble. trouble ≡ Refused refusal };
 
@@ -37,23 +40,22 @@ impl From<io::Error> for Trouble {
 }
 
 impl fmt::Display for Trouble {
+    ghost output = { trouble_text };
+
     fn fmt<W: fmt::Write>(&self, f: &mut fmt::Formatter<W>) -> fmt::Result {
-        match *self {
+        match self {
             Trouble::BadSetup(fault) => write!(
                 f,
-                "line 1: expected `n p q`, the number of cards and the tolerance, with one space between two numbers: {}",
-                fault.words()
+                "line 1: expected `n p q`, the number of cards and the tolerance, with one space between two numbers: {fault}"
             ),
             Trouble::BadLink { line, fault } => write!(
                 f,
-                "line {line}: expected `u v`, two cards, with one space between the numbers: {}",
-                fault.words()
+                "line {line}: expected `u v`, two cards, with one space between the numbers: {fault}"
             ),
             Trouble::Refused(refusal) => write!(
                 f,
-                "line 1: refused {}: {}",
-                refusal.number(),
-                words_of(refusal)
+                "line 1: refused {}: {refusal}",
+                refusal.number()
             ),
             Trouble::Input { line, error } => write!(
                 f,
@@ -63,3 +65,5 @@ impl fmt::Display for Trouble {
         }
     }
 }
+
+impl Error for Trouble {}

@@ -1,4 +1,3 @@
 pub mod Digits
-pub mod Splits
-pub mod Chains
+pub mod Words
 pub mod Backs

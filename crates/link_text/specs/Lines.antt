@@ -1,5 +1,5 @@
 -- What a line of numbers says.
-use Rattle.std.specs.Prelude.{ℕ, Bool, cond, not, List, [], ◌∷◌, ◌++◌, length, drop, Ok, Err, decimal, Result, ◌==◌, nat_le}
+use Rattle.std.specs.Prelude.{ℕ, zero, suc, Bool, cond, not, List, [], ◌∷◌, ◌++◌, Ok, Err, decimal, Result, ◌==◌}
 use Rattle.link_text.specs.declared.fault.Fault.{Fault}
 use Rattle.link_text.specs.declared.fault.Fault.TheVariants.{Missing, MoreFollows}
 use Rattle.link_text.specs.declared.line.Setup.{Setup}
@@ -38,6 +38,11 @@ abbrev pub at_end : {A : Type 0} → List (List ℕ) → A → Result A Fault
 at_end [] a = Ok a
 at_end (w ∷ ws) a = Err MoreFollows
 
+-- so many numbers, and nothing else
+abbrev pub numbers_in : ℕ → List (List ℕ) → Result (List ℕ) Fault
+numbers_in zero ws = at_end ws []
+numbers_in (suc n) ws = with_number ws (λ u rest. and_then (numbers_in n rest) (λ us. Ok (u ∷ us)))
+
 -- a link: two numbers, and nothing else
 abbrev pub link_in : List ℕ → Result (ℕ × ℕ) Fault
 link_in line =
@@ -56,7 +61,3 @@ link_text u v = decimal u ++ (32 ∷ decimal v)
 -- what is written of a setup
 abbrev pub setup_text : Setup → List ℕ
 setup_text s = decimal s.cards ++ (32 ∷ (decimal s.p ++ (32 ∷ decimal s.q)))
-
--- the words from a place on; one past the end there are none
-abbrev pub words_from : List ℕ → ℕ → List (List ℕ)
-words_from line at = cond (nat_le at (length line)) (words (drop at line)) []

@@ -9,9 +9,7 @@
 
 mod fault;
 mod line;
-mod meaning;
 mod number;
 
 pub use fault::Fault;
 pub use line::{Setup, read_link, read_setup};
-pub use meaning::words_of;

@@ -1,26 +1,13 @@
 -- The first of highest density: the best so far, one more, and that there is only one.
-use Rattle.std.proofs.Common.{◌≡◌, ℕ, zero, suc, ◌-◌, ◌*◌, ◌<◌, ◌≤◌, cond, ltb, ◌⊎◌, sym, ap, ◌∙◌, subst, inl, inr, le_of_eq, le_refl, mul-le-mul_right, lt_of_mul-lt-mul_right, mul-lt-mul_of_pos_right, arith}
-use Rattle.std.proofs.lemmas.Bool.{cases_eq, cases_lt, cases_order, lt-ltb, le-ltb, cond-true, cond-false}
+use Rattle.std.proofs.Common.{◌≡◌, ℕ, zero, suc, ◌-◌, ◌*◌, ◌<◌, ◌≤◌, cond, ltb, ◌⊎◌, sym, ap, ◌∙◌, subst, inl, inr, le_of_eq, le_of_lt, le_refl, mul-le-mul_right, lt_of_mul-lt-mul_right, mul-lt-mul_of_pos_right, arith}
+use Rattle.std.proofs.lemmas.Bool.{cases_eq, cases_lt, lt-ltb, le-ltb, cond-true, cond-false}
 use Rattle.peel.specs.Peels.{Densest}
 
 pub densest_one : (e s : ℕ → ℕ) → 0 < s 0 → Densest e s 1 0
-densest_one e s some = record {
-  among = omega arith;
-  some = some;
-  highest = λ j h _. (let z : j ≡ 0 = omega arith in omega (arith, ap (λ (x : ℕ). e x * s 0) z, ap (λ (x : ℕ). e 0 * s x) z));
-  first = λ j h _. absurd (omega arith);
-}
+densest_one e s some = grind arith
 
 pub densest_keeps : (e s : ℕ → ℕ) (m i : ℕ) → Densest e s m i → (0 < s m → e m * s i ≤ e i * s m) → Densest e s (suc m) i
-densest_keeps e s m i d k = record {
-  among = omega (arith, d.among);
-  some = d.some;
-  highest = λ j h p. elim (cases_eq j m) [
-    | inl z ↦ subst (λ (x : ℕ). e x * s i ≤ e i * s x) (sym z) (k (subst (λ (x : ℕ). 0 < s x) z p))
-    | inr n ↦ d.highest j (omega arith) p
-  ];
-  first = d.first;
-}
+densest_keeps e s m i d k = grind arith
 
 pub densest_takes : (e s : ℕ → ℕ) (m i : ℕ) → Densest e s m i → 0 < s m → e i * s m < e m * s i → Densest e s (suc m) m
 densest_takes e s m i d pm k = record {
@@ -28,43 +15,22 @@ densest_takes e s m i d pm k = record {
   some = pm;
   highest = λ j h p. elim (cases_eq j m) [
     | inl z ↦ subst (λ (x : ℕ). e x * s m ≤ e m * s x) (sym z) (le_refl _)
-    | inr n ↦ lt_le (over j (omega arith) p)
+    | inr n ↦ le_of_lt (over j (omega arith) p)
   ];
   first = over;
 }
   where
-    lt_le : {a b : ℕ} → a < b → a ≤ b
-    lt_le h = omega arith
-
     over : (j : ℕ) → j < m → 0 < s j → e j * s m < e m * s j
     over j h p = lt_of_mul-lt-mul_right (s i) (omega (arith, mul-le-mul_right (s m) (d.highest j h p), mul-lt-mul_of_pos_right {k = s j} k p))
 
 -- there is one first of highest density
 pub densest_only : (e s : ℕ → ℕ) (m i j : ℕ) → Densest e s m i → Densest e s m j → i ≡ j
-densest_only e s m i j a b = elim (cases_order i j) [
-  | inl z ↦ z
-  | inr o ↦ elim o [
-    | inl l ↦ absurd (omega (arith, b.first i l a.some, a.highest j b.among b.some))
-    | inr l ↦ absurd (omega (arith, a.first j l b.some, b.highest i a.among a.some))
-  ]
-]
+densest_only e s m i j a b = grind arith
 
 -- more sets change nothing where each of them is empty or as dense as one before
 pub densest_extends : (e s : ℕ → ℕ) (m k i : ℕ) → m ≤ k → Densest e s m i
     → ((j : ℕ) → m ≤ j → j < k → (s j ≡ 0) ⊎ ((h : ℕ) × (h < m) × (e j ≡ e h) × (s j ≡ s h))) → Densest e s k i
-densest_extends e s m k i l d more = record {
-  among = omega (arith, d.among);
-  some = d.some;
-  first = d.first;
-  highest = λ j h p. elim (cases_lt j m) [
-    | inl b ↦ d.highest j b p
-    | inr b ↦ elim (more j b h) [
-      | inl z ↦ absurd (omega arith)
-      | inr f ↦ subst (λ (x : ℕ). x * s i ≤ e i * s j) (sym f.2)
-          (subst (λ (y : ℕ). e f.0 * s i ≤ e i * y) (sym f.3) (d.highest f.0 f.1 (subst (λ (y : ℕ). 0 < y) f.3 p)))
-    ]
-  ];
-}
+densest_extends e s m k i l d more = grind arith
 
 -- the better of the best so far and the set t
 pub densest_step : (e s : ℕ → ℕ) (t i : ℕ) → 0 < s t → Densest e s (suc (t - 1)) i → Densest e s (suc t) (cond (ltb (e i * s t) (e t * s i)) t i)

@@ -1,9 +1,9 @@
 -- Each link inside a set is charged to an end of lower level; and each is met from both its ends.
-use Rattle.std.proofs.Common.{◌≡◌, ℕ, ◌+◌, ◌*◌, ◌<◌, ◌≤◌, Bool, true, false, leb, sym, refl, ap, ◌∙◌, subst, inl, inr, zero-le, mul-le-mul_right, mul-le-mul_left, arith}
-use Rattle.std.proofs.lemmas.Bool.{cases_lt, le-leb}
+use Rattle.std.proofs.Common.{◌≡◌, ℕ, ◌+◌, ◌*◌, ◌<◌, ◌≤◌, Bool, true, false, leb, sym, refl, ap, ◌∙◌, subst, inl, inr, mul-le-mul_right, mul-le-mul_left, arith}
+use Rattle.std.proofs.lemmas.Bool.Decides.{nat_tests}
 use Rattle.books.specs.Sums.{sum_to, pair_sum, one, when}
 use Rattle.books.specs.Graphs.{Graph, Lawful, weight}
-use Rattle.books.proofs.Sums.{sum_le, sum_eq, sum_mul, sum_none, square, pairs_le, one_le, sum_most}
+use Rattle.books.proofs.Sums.{sum_le, sum_eq, sum_mul, sum_none, square, pairs_le, sum_most}
 use Rattle.peel.specs.Sets.{Cards, size, partners_in, links_in}
 use Rattle.peel.specs.Levels.{Rules, Table, at_least, AllRestUnder}
 use Rattle.peel.specs.Lines.{below}
@@ -16,12 +16,7 @@ sum_when true f n = omega arith
 sum_when false f n = omega (arith, sum_none (λ u. 0) n (λ _ _. refl))
 
 split : (x y : Bool) (w i j : ℕ) → when x (when y w) ≤ when x (when (leb i j) w) + when y (when (leb j i) w)
-split false y w i j = zero-le
-split true false w i j = zero-le
-split true true w i j = elim (cases_lt i j) [
-  | inl l ↦ omega (arith, ap (λ (b : Bool). when b w) (le-leb i j (omega arith)))
-  | inr l ↦ omega (arith, ap (λ (b : Bool). when b w) (le-leb j i l))
-]
+split x y w i j = grind (arith, nat_tests)
 
 -- what the pair is charged to its first end
 abbrev charge : Graph → Table → Cards → ℕ → ℕ → ℕ
@@ -71,17 +66,13 @@ handshake g X w = omega (arith, whole, square c g.cards, halves, diagonal, doubl
     c v u = when (X v) (when (X u) (weight g v u))
 
     turn : (x y : Bool) (a : ℕ) → when x (when y a) ≡ when y (when x a)
-    turn true true a = refl
-    turn true false a = refl
-    turn false true a = refl
-    turn false false a = refl
+    turn x y a = grind arith
 
     swap : (v u : ℕ) → c u v ≡ c v u
     swap v u = subst (λ (a : ℕ). when (X u) (when (X v) a) ≡ c v u) (weight_turn g w v u) (turn (X u) (X v) (weight g v u))
 
     none : (x : Bool) → when x (when x 0) ≡ 0
-    none true = refl
-    none false = refl
+    none x = grind arith
 
     whole : sum_to (λ v. sum_to (λ u. c v u) g.cards) g.cards ≡ sum_to (λ v. one (X v) * partners_in g X v) g.cards
     whole = sum_eq _ _ g.cards (λ v _. sum_when (X v) (λ u. when (X u) (weight g v u)) g.cards)
@@ -99,8 +90,7 @@ pub partners_most : (g : Graph) (X : Cards) (v : ℕ) → partners_in g X v ≤ 
 partners_most g X v = omega (arith, sum_most (λ u. when (X u) (weight g v u)) 1 g.cards (λ u _. at_most (X u) (g.linked v u)))
   where
     at_most : (x a : Bool) → when x (one a) ≤ 1
-    at_most true a = one_le a
-    at_most false a = zero-le
+    at_most x a = grind arith
 
 pub links_le : (g : Graph) → Lawful g → (X : Cards) → links_in g X ≤ g.cards * size g X
 links_le g w X = omega (

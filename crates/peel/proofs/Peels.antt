@@ -1,6 +1,7 @@
 -- Peels: how fast they shrink, and their levels.
-use Rattle.std.proofs.Common.{◌≡◌, ℕ, zero, suc, ◌+◌, ◌-◌, ◌*◌, ◌<◌, ◌≤◌, Bool, true, false, cond, not, ◌&&◌, ltb, ◌⊎◌, sym, refl, ap, ◌∙◌, subst, inl, inr, zero-le, add-zero, mul-le-mul_right, le_antisymm, lt_of_mul-lt-mul_right, mul-lt-mul_of_pos_right, mul-pos, zero-add, arith}
-use Rattle.std.proofs.lemmas.Bool.{cases_eq, cases_Bool, and_parts, and_from, not_from_false, not-true, both_ways, lt-ltb, le-leb, lt-leb, leb-true, cond-true, cond-false, cases_lt, le-ltb}
+use Rattle.std.proofs.Common.{◌≡◌, ℕ, zero, suc, ◌+◌, ◌-◌, ◌*◌, ◌<◌, ◌≤◌, Bool, true, false, cond, not, ◌&&◌, ltb, ◌⊎◌, sym, ap, ◌∙◌, subst, inl, inr, zero-le, add-zero, mul-le-mul_right, le_of_eq, lt_of_mul-lt-mul_right, mul-lt-mul_of_pos_right, mul-pos, zero-add, arith}
+use Rattle.std.proofs.lemmas.Bool.{cases_eq, cases_Bool, and_parts, and_from, not_from_false, not-true, both_ways, lt-ltb, le-leb, leb-true, cond-true, cond-false, cases_lt, le-ltb}
+use Rattle.std.proofs.lemmas.Bool.Decides.{nat_tests}
 use Rattle.books.specs.Sums.{sum_to, one}
 use Rattle.books.specs.Graphs.{Lawful}
 use Rattle.books.proofs.Sums.{sum_le, sum_lt, sum_mul, sum_none, sum_at}
@@ -15,9 +16,7 @@ use Rattle.peel.proofs.Lines.{partners_le, partners_same, below_down, not_below,
 
 -- a card that stays has the count c
 stay : (x b : Bool) (c m : ℕ) → (b ≡ false → c ≤ m) → one (x && not b) * c ≤ one x * m
-stay true true c m h = omega arith
-stay true false c m h = omega (arith, h refl)
-stay false b c m h = omega arith
+stay x b c m h = grind arith
 
 pub peel_shrinks : (r : Rules) (t : ℕ) → peel_cards r (suc t) ≤ peel_cards r t
 peel_shrinks r t = sum_le _ _ r.graph.cards (λ v _. omega (arith, stay (peel r t v) (below r.p r.q r.line (partners_in r.graph (peel r t) v)) 1 1 (λ _. omega arith)))
@@ -59,12 +58,9 @@ shrinks_fast r w qs t pos short = elim (short_of r.p r.q r.line (links_in r.grap
       sum_mul (λ v. one (peel r (suc t) v)) a r.graph.cards,
       each,
       sum_mul (λ v. one (X v) * partners_in r.graph X v) b r.graph.cards,
-      mul-le-mul_right b (le_of (handshake r.graph X w)),
+      mul-le-mul_right b (le_of_eq (handshake r.graph X w)),
     )
       where
-        le_of : {x y : ℕ} → x ≡ y → x ≤ y
-        le_of e = omega arith
-
         each : sum_to (λ v. one (peel r (suc t) v) * a) r.graph.cards ≤ sum_to (λ v. one (X v) * partners_in r.graph X v * b) r.graph.cards
         each = sum_le _ _ r.graph.cards (λ v _. omega (arith, stay (X v) (below r.p r.q r.line (partners_in r.graph X v)) a (partners_in r.graph X v * b) (h v)))
 
@@ -99,45 +95,41 @@ empties r w qs ht short = subst (λ (j : ℕ). peel_cards r j ≡ 0) (zero-add r
 
 -- levels
 pub peel_mono : (r : Rules) (v i j : ℕ) → i ≤ j → peel r j v ≡ true → peel r i v ≡ true
-peel_mono r v i zero h p =
-    let e : 0 ≡ i = omega arith in
-    subst (λ (m : ℕ). peel r m v ≡ true) e p
+peel_mono r v i zero h p = grind arith
 peel_mono r v i (suc j) h p = elim (cases_eq i (suc j)) [
   | inl e ↦ subst (λ (m : ℕ). peel r m v ≡ true) (sym e) p
   | inr n ↦ peel_mono r v i j (omega arith) (and_parts _ _ p).0
 ]
 
--- the last of the sets up to k that has the card v
+-- m is the last of the sets up to k that has the card v
+abbrev Last : Rules → ℕ → ℕ → ℕ → Type 0
+Last r k v m = (m ≤ k) × (peel r m v ≡ true) × ((i : ℕ) → i ≤ k → peel r i v ≡ true → i ≤ m)
+
+-- and this is it
 abbrev pub level_to : Rules → ℕ → ℕ → ℕ
 level_to r zero v = 0
 level_to r (suc k) v = cond (peel r (suc k) v) (suc k) (level_to r k v)
 
 pub level_is : (r : Rules) (k : ℕ) → LevelsUpTo r k (level_to r k)
 level_is r zero v h = (omega arith, lt-ltb _ _ h, λ i l _. l)
-level_is r (suc k) v h = go (peel r (suc k) v) refl (level_is r k v h)
-  where
-    go : (b : Bool) → peel r (suc k) v ≡ b → (level_to r k v ≤ k) × (peel r (level_to r k v) v ≡ true) × ((i : ℕ) → i ≤ k → peel r i v ≡ true → i ≤ level_to r k v) →
-        (level_to r (suc k) v ≤ suc k) × (peel r (level_to r (suc k) v) v ≡ true) × ((i : ℕ) → i ≤ suc k → peel r i v ≡ true → i ≤ level_to r (suc k) v)
-    go true e ih = subst (λ (m : ℕ). (m ≤ suc k) × (peel r m v ≡ true) × ((i : ℕ) → i ≤ suc k → peel r i v ≡ true → i ≤ m)) (sym (cond-true _ _ _ e)) (omega arith, e, λ i l _. l)
-    go false e ih = subst (λ (m : ℕ). (m ≤ suc k) × (peel r m v ≡ true) × ((i : ℕ) → i ≤ suc k → peel r i v ≡ true → i ≤ m)) (sym (cond-false _ _ _ e))
-        (omega (arith, ih.0), ih.1, λ i l p. elim (cases_eq i (suc k)) [ inl z ↦ absurd (both_ways _ e (subst (λ (m : ℕ). peel r m v ≡ true) z p)) | inr n ↦ ih.2 i (omega arith) p ])
+level_is r (suc k) v h =
+    let ih : Last r k v (level_to r k v) = level_is r k v h in
+    elim (cases_Bool (peel r (suc k) v)) [
+      | inl y ↦ subst (Last r (suc k) v) (sym (cond-true _ _ _ y)) (omega arith, y, λ i l _. l)
+      | inr f ↦ subst (Last r (suc k) v) (sym (cond-false _ _ _ f))
+          (omega (arith, ih.0), ih.1, λ i l p. elim (cases_eq i (suc k)) [ inl z ↦ absurd (both_ways _ f (subst (λ (m : ℕ). peel r m v ≡ true) z p)) | inr n ↦ ih.2 i (omega arith) p ])
+    ]
 
 -- there is one such table
 pub levels_only : (r : Rules) (k : ℕ) (L M : Table) → LevelsUpTo r k L → LevelsUpTo r k M → (v : ℕ) → v < r.graph.cards → L v ≡ M v
-levels_only r k L M a b v h = le_antisymm ((b v h).2 (L v) (a v h).0 (a v h).1) ((a v h).2 (M v) (b v h).0 (b v h).1)
+levels_only r k L M a b v h = grind arith
 
 pub levels_same : (r : Rules) (k : ℕ) (L M : Table) → ((v : ℕ) → v < r.graph.cards → L v ≡ M v) → LevelsUpTo r k M → LevelsUpTo r k L
-levels_same r k L M e lv v h = subst (λ (m : ℕ). (m ≤ k) × (peel r m v ≡ true) × ((i : ℕ) → i ≤ k → peel r i v ≡ true → i ≤ m)) (sym (e v h)) (lv v h)
+levels_same r k L M e lv v h = grind (arith, e v h, lv v h)
 
 -- the cards at level i or higher are the set i
 pub level_set : (r : Rules) (k : ℕ) (L : Table) → LevelsUpTo r k L → (i : ℕ) → i ≤ k → Same r.graph (at_least L i) (peel r i)
-level_set r k L lv i l v h = elim (cases_lt (L v) i) [
-  | inr le ↦ le-leb _ _ le ∙ sym (peel_mono r v i (L v) le (lv v h).1)
-  | inl lt ↦ elim (cases_Bool (peel r i v)) [
-    | inr f ↦ lt-leb _ _ lt ∙ sym f
-    | inl y ↦ absurd (omega (arith, (lv v h).2 i l y))
-  ]
-]
+level_set r k L lv i l v h = grind (arith, nat_tests, lv v h, peel_mono r v i (L v))
 
 -- a card of the set i has no lower level in a table in which every card rests
 under_rest : (r : Rules) (N : Table) → RestsAbove r zeros N → (i v : ℕ) → v < r.graph.cards → i ≤ r.height → peel r i v ≡ true → i ≤ N v
@@ -169,67 +161,24 @@ levels_rest r L pl v h = elim (cases_eq (L v) r.height) [
 pub peel_lowest : (r : Rules) (L : Table) → PeelLevels r L → LowestAbove r zeros L
 peel_lowest r L pl = (λ v h. (zero-le, levels_rest r L pl v h), λ N st v h. under_rest r N st (L v) v h (pl v h).0 (pl v h).1)
 
--- where the last set of a peel is empty no card is at the height
-pub levels_under : (r : Rules) (L : Table) → peel_cards r r.height ≡ 0 → PeelLevels r L → AllRestUnder r L
-levels_under r L none lv v h = (under, levels_rest r L lv v h)
-  where
-    top : L v ≡ r.height → ⊥
-    top e = omega (
-      arith,
-      none,
-      sum_at (λ u. one (peel r r.height u)) r.graph.cards v h,
-      ap one (subst (λ (i : ℕ). peel r i v ≡ true) e (lv v h).1),
-    )
-
-    lt_of_ne : {a b : ℕ} → a ≤ b → (a ≡ b → ⊥) → a < b
-    lt_of_ne h n = omega arith
-
-    under : L v < r.height
-    under = lt_of_ne (lv v h).0 top
-
 -- a peel whose set has no card left
 pub none_left : (r : Rules) (t : ℕ) → peel_cards r t ≡ 0 → (v : ℕ) → v < r.graph.cards → peel r t v ≡ false
-none_left r t z v h = elim (cases_Bool (peel r t v)) [
-  | inr f ↦ f
-  | inl y ↦ absurd (omega (arith, sum_at (λ u. one (peel r t u)) r.graph.cards v h, ap one y))
-]
+none_left r t z v h = grind (arith, sum_at (λ u. one (peel r t u)) r.graph.cards v h)
+
+-- where the last set of a peel is empty no card is at the height
+pub levels_under : (r : Rules) (L : Table) → peel_cards r r.height ≡ 0 → PeelLevels r L → AllRestUnder r L
+levels_under r L none lv v h = (grind (arith, lv v h, none_left r r.height none v h), levels_rest r L lv v h)
 
 pub none_later : (r : Rules) (t j : ℕ) → peel_cards r t ≡ 0 → t ≤ j → peel_cards r j ≡ 0
-none_later r t j z l = sum_none _ r.graph.cards (λ v h. elim (cases_Bool (peel r j v)) [
-  | inr f ↦ ap one f
-  | inl y ↦ absurd (both_ways _ (none_left r t z v h) (peel_mono r v t j l y))
-])
+none_later r t j z l = sum_none _ r.graph.cards (λ v h. grind (arith, none_left r t z v h, peel_mono r v t j l))
 
 -- then the levels so far are the levels of all further sets too
 pub levels_empty : (r : Rules) (m k : ℕ) (L : Table) → m ≤ k → peel_cards r m ≡ 0 → LevelsUpTo r m L → LevelsUpTo r k L
-levels_empty r m k L l z lv v h = (
-  omega (arith, (lv v h).0),
-  (lv v h).1,
-  λ i a y. elim (cases_lt m i) [
-    | inl b ↦ absurd (both_ways _ (none_left r m z v h) (peel_mono r v m i (omega arith) y))
-    | inr b ↦ (lv v h).2 i b y
-  ],
-)
+levels_empty r m k L l z lv v h = grind (arith, lv v h, none_left r m z v h, peel_mono r v m)
 
 -- a round in which every card stays
 pub all_stay : (r : Rules) (t : ℕ) → peel_cards r (suc t) ≡ peel_cards r t → Same r.graph (peel r (suc t)) (peel r t)
-all_stay r t e v h = elim (cases_Bool (peel r (suc t) v)) [
-  | inl y ↦ y ∙ sym (and_parts _ _ y).0
-  | inr f ↦ elim (cases_Bool (peel r t v)) [
-    | inr n ↦ f ∙ sym n
-    | inl y ↦ absurd (omega (
-      arith,
-      e,
-      sum_lt (λ u. one (peel r (suc t) u)) (λ u. one (peel r t u)) r.graph.cards v h
-          (λ u _. fewer (peel r t u) _) (omega (arith, ap one f, ap one y)),
-    ))
-  ]
-]
-  where
-    fewer : (x y : Bool) → one (x && y) ≤ one x
-    fewer true true = omega arith
-    fewer true false = omega arith
-    fewer false y = omega arith
+all_stay r t e v h = grind (arith, sum_lt (λ u. one (peel r (suc t) u)) (λ u. one (peel r t u)) r.graph.cards v h (λ u _. grind arith))
 
 -- then every further set is the same
 pub stays_on : (r : Rules) (t d : ℕ) → peel_cards r (suc t) ≡ peel_cards r t → Same r.graph (peel r (d + t)) (peel r t)
@@ -241,9 +190,7 @@ stays_on r t (suc d) e v h =
     ∙ all_stay r t e v h
 
 pub stays_to : (r : Rules) (t j : ℕ) → t ≤ j → peel_cards r (suc t) ≡ peel_cards r t → Same r.graph (peel r j) (peel r t)
-stays_to r t j l e v h =
-    let s : (j - t) + t ≡ j = omega arith in
-    ap (λ (i : ℕ). peel r i v) (sym s) ∙ stays_on r t (j - t) e v h
+stays_to r t j l e v h = grind (arith, stays_on r t (j - t) e v h)
 
 -- and the cards that stay go up to the last set at once
 pub levels_lifted : (r : Rules) (t k : ℕ) (L M : Table) → t < k → peel_cards r (suc t) ≡ peel_cards r t → LevelsUpTo r (suc t) L
@@ -252,9 +199,9 @@ levels_lifted r t k L M l e lv is = levels_same r k M (λ v. cond (ltb t (L v)) 
   where
     lifted : LevelsUpTo r k (λ v. cond (ltb t (L v)) k (L v))
     lifted v h = elim (cases_lt t (L v)) [
-      | inl a ↦ subst (λ (m : ℕ). (m ≤ k) × (peel r m v ≡ true) × ((i : ℕ) → i ≤ k → peel r i v ≡ true → i ≤ m)) (sym (cond-true _ _ _ (lt-ltb _ _ a)))
+      | inl a ↦ subst (Last r k v) (sym (cond-true _ _ _ (lt-ltb _ _ a)))
           (omega arith, stays_to r t k (omega arith) e v h ∙ peel_mono r v t (L v) (omega arith) (lv v h).1, λ i b _. b)
-      | inr a ↦ subst (λ (m : ℕ). (m ≤ k) × (peel r m v ≡ true) × ((i : ℕ) → i ≤ k → peel r i v ≡ true → i ≤ m)) (sym (cond-false _ _ _ (le-ltb _ _ a))) (
+      | inr a ↦ subst (Last r k v) (sym (cond-false _ _ _ (le-ltb _ _ a))) (
         omega arith,
         (lv v h).1,
         λ i b y. elim (cases_lt t i) [

@@ -1,7 +1,7 @@
 -- Searches: what they leave, that there is one outcome, and what grows from step to step.
 use Rattle.std.proofs.Common.{◌≡◌, ℕ, suc, ◌*◌, ◌/◌, ◌<◌, ◌≤◌, true, false, sym, refl, ap, ◌∙◌, subst, inl, inr, le_of_eq, le_refl, lt_of_lt_of_le, mul-le-mul_right, mul-le-mul, mul-le-mul_left, le-div_iff_mul-le, div-mul-le_self, le_of_mul-le-mul_right, arith}
 use native.Mathlib.Nat.{div-le_of_le-mul, zero-div}
-use Rattle.std.proofs.lemmas.Bool.{cases_eq, cases_Bool, both_ways}
+use Rattle.std.proofs.lemmas.Bool.{cases_eq, both_ways}
 use Rattle.books.specs.Graphs.{Graph, Lawful}
 use Rattle.peel.specs.Tolerances.{Height}
 use Rattle.peel.specs.Sets.{Cards, Same, size, links_in}
@@ -17,13 +17,7 @@ use Rattle.peel.proofs.Bests.{densest_only}
 
 -- a best set that falls short shows that every set does
 all_short : (r : Rules) (i : ℕ) → Best r i → reaches_at r i ≡ false → (t : ℕ) → t < r.height → Quiet r t
-all_short r i b sh t h = elim (cases_eq (peel_cards r t) 0) [
-  | inl z ↦ inl z
-  | inr n ↦ elim (cases_Bool (reaches_at r t)) [
-    | inr f ↦ inr f
-    | inl y ↦ absurd (both_ways _ sh (reach_up r.p r.q r.line _ _ _ _ (omega arith) b.some (b.highest t h (omega arith)) y))
-  ]
-]
+all_short r i b sh t h = grind (arith, b.highest t h, b.some, reach_up r.p r.q r.line (peel_links r t) (peel_cards r t) (peel_links r i) (peel_cards r i))
 
 pub search_sound : {g : Graph} {p q k : ℕ} → Lawful g → 1 ≤ q → Height p q g.cards k
     → {K : Cards} {o : Outcome} → Search g p q k K o → Sound g p q k o
@@ -107,9 +101,7 @@ rank_denser g K B pk pb d = (le-div_iff_mul-le pb).1 (grows g.cards (links_in g 
 rank_empty : (g : Graph) → Lawful g → (K B : Cards) → size g K ≡ 0 → 0 < size g B → 0 < links_in g B → rank g K < rank g B
 unfolding rank
 rank_empty g w K B z pb pl =
-    let none : g.cards * g.cards * links_in g K ≡ 0 =
-    let l : links_in g K ≤ 0 = omega (arith, links_le g w K, mul-le-mul_left {m = size g K} {n = 0} g.cards (omega (arith, z))) in
-    omega (arith, mul-le-mul_left (g.cards * g.cards) l) in
+    let none : g.cards * g.cards * links_in g K ≡ 0 = grind (arith, z, links_le g w K) in
     let low : rank g K ≡ 0 = ap (λ (x : ℕ). x / size g K) none ∙ zero-div (size g K) in
     let n : 1 ≤ g.cards = omega (arith, size_le g B) in
     let high : 1 ≤ rank g B =

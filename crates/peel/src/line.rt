@@ -24,16 +24,16 @@ impl Line {
             < 2 * (sum * sum) * u64::from(self.links)
     }
 
-    // Whether a set of so many links and cards reaches the line.
-    pub fn reached_by(self, tolerance: Tolerance, links: u32, cards: u16) -> bool
-        ensures { result ≡ reaches tolerance.p tolerance.q self links cards }
+    // Whether a set of so many links and cards as `set` has reaches the line.
+    pub fn reached_by(self, tolerance: Tolerance, set: Line) -> bool
+        ensures { result ≡ reaches tolerance.p tolerance.q self set.links set.cards }
     {
         if self.links == 0 {
-            return links > 0;
+            return set.links > 0;
         }
         let q = u64::from(tolerance.q());
         let sum = q + u64::from(tolerance.p());
-        u64::from(links) * u64::from(self.cards) * q
-            >= sum * u64::from(self.links) * u64::from(cards)
+        u64::from(set.links) * u64::from(self.cards) * q
+            >= sum * u64::from(self.links) * u64::from(set.cards)
     }
 }

@@ -40,15 +40,16 @@ impl Tolerance {
         self.q
     }
 
-    // How often the number of cards is replaced by the next one until 0 stands. So many turns.
+    // How often the number of cards is replaced by the next one until 0 stands. So many turns, which are the answer:
+    // an iterator over the numbers, counted, would be no plainer.
     pub fn height(self, cards: u16) -> u16
         ensures is { Height self.p self.q cards result }
         ensures only { (k : ℕ) → Height self.p self.q cards k → k ≡ result }
         ensures most { result ≤ cards }
     {
-        let p = self.p as u32;
-        let q = self.q as u32;
-        let mut left = cards as u32;
+        let p = u32::from(self.p);
+        let q = u32::from(self.q);
+        let mut left = u32::from(cards);
         let mut turns: u16 = 0;
         while left > 0 {
             left = (left * q - 1) / (q + p);

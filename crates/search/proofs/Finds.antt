@@ -3,9 +3,10 @@ use Rattle.std.proofs.Common.{◌≡◌, ℕ, ◌<◌, ◌≤◌, true, false, L
 use Rattle.std.specs.Result.{result_err}
 use Rattle.std.proofs.lemmas.List.{get_or-replicate}
 use Rattle.std.proofs.lemmas.Bool.{lt-ltb, le-ltb, cond-true, cond-false}
+use Rattle.std.proofs.lemmas.Result.{IfOk-weaker}
 use Rattle.books.specs.declared.refusal.Refusal.{Refusal}
 use Rattle.books.specs.declared.refusal.Refusal.TheVariants.{ListTooShort}
-use Rattle.books.specs.Books.{Book}
+use Rattle.books.specs.Books.{IsBook}
 use Rattle.books.specs.Graphs.{Graph, Lawful}
 use Rattle.books.specs.Refusals.{unless_refused}
 use Rattle.peel.specs.Tolerances.{Height}
@@ -28,10 +29,6 @@ use Rattle.search.proofs.Peelings.{size_everyone}
 pub all_marked : (g : Graph) → g.cards ≤ 1024 → Same g (marked (replicate 1024 true)) (everyone g)
 all_marked g few v h = get_or-replicate 1024 v true false (omega arith) ∙ sym (lt-ltb v g.cards h)
 
-made_map : {A E : Type 0} (r : Result A E) (P Q : A → Type 0) → ((x : A) → P x → Q x) → IfOk r P → IfOk r Q
-made_map (Ok x) P Q f p = f x p
-made_map (Err e) P Q f p = tt
-
 pub answered : (g : Graph) (p q k : ℕ) → Lawful g → 1 ≤ q → Height p q g.cards k
     → (S : Cards) → Same g S (everyone g) → (o : Outcome) → Search g p q k S o → (was is : List ℕ) (r : Result Group Refusal)
     → result_err r ≡ group_refusal (size g o.kept) (length was)
@@ -50,45 +47,44 @@ answered g p q k w qs ht S same o s was is r refused counts list = at (search_mo
           only = λ a f. search_only (λ v h. refl) x.1 (subst (λ (j : ℕ). Search g p q j (everyone g) a) (height_one f.1 ht) f.2);
           sound = λ j h. search_sound w qs h (subst (λ (i : ℕ). Search g p q i (everyone g) x.0) (height_one ht h) x.1);
           refused = refused ∙ ap (λ (n : ℕ). group_refusal n (length was)) cards;
-          counts = made_map r _ _ (λ f c. (c.0 ∙ cards, c.1 ∙ links, c.2 ∙ x.2.peels)) counts;
+          counts = IfOk-weaker r _ _ (λ f c. (c.0 ∙ cards, c.1 ∙ links, c.2 ∙ x.2.peels)) counts;
           list = list ∙ (λ i. unless_refused (result_err r) was (listed_same o.kept x.0.kept g.cards x.2.kept i ++ drop (cards i) was));
         }
 
 -- what is known of the search that the code ran, from a mark in every row
-pub record Ran (b : Book) (p q : ℕ) (s : Searched) : Type 0 where
+pub record Ran (h : Graph) (p q : ℕ) (s : Searched) : Type 0 where
   pub least : 1 ≤ p
   pub order : p ≤ q
-  pub search : Search b.graph p q s.height (marked (replicate 1024 true)) (outcome s)
-  pub height : Height p q b.graph.cards s.height
-  pub sound : Sound b.graph p q s.height (outcome s)
+  pub search : Search h p q s.height (marked (replicate 1024 true)) (outcome s)
+  pub height : Height p q h.cards s.height
+  pub sound : Sound h p q s.height (outcome s)
 
-cards_are : (b : Book) (p q : ℕ) (s : Searched) → Ran b p q s → s.line.cards ≡ size b.graph (marked s.kept)
-cards_are b p q s r = ap (λ (l : Line). l.cards) r.sound.line
+module _ {h : Graph} {p q : ℕ} {s : Searched} (b : IsBook h) (r : Ran h p q s) where
+  cards_are : s.line.cards ≡ size h (marked s.kept)
+  cards_are = ap (λ (l : Line). l.cards) r.sound.line
 
-links_are : (b : Book) (p q : ℕ) (s : Searched) → Ran b p q s → s.line.links ≡ links_in b.graph (marked s.kept)
-links_are b p q s r = ap (λ (l : Line). l.links) r.sound.line
+  links_are : s.line.links ≡ links_in h (marked s.kept)
+  links_are = ap (λ (l : Line). l.links) r.sound.line
 
-pub too_short : (b : Book) (p q : ℕ) (s : Searched) → Ran b p q s → (was : List ℕ) → length was < s.line.cards → Answered b.graph p q was (Err ListTooShort) was
-too_short b p q s r was short =
-    let more : length was < size b.graph (marked s.kept) = omega (arith, cards_are b p q s r) in
-    answered b.graph p q s.height b.lawful (omega (arith, r.least, r.order)) r.height _ (all_marked b.graph b.most) (outcome s) r.search was was (Err ListTooShort)
-    (sym (cond-true _ _ _ (lt-ltb _ _ more))) tt refl
+  pub too_short : (was : List ℕ) → length was < s.line.cards → Answered h p q was (Err ListTooShort) was
+  too_short was short =
+      let more : length was < size h (marked s.kept) = omega (arith, cards_are) in
+      answered h p q s.height b.lawful (omega (arith, r.least, r.order)) r.height _ (all_marked h b.most) (outcome s) r.search was was (Err ListTooShort)
+      (sym (cond-true _ _ _ (lt-ltb _ _ more))) tt refl
 
-pub finds : (b : Book) (p q : ℕ) (s : Searched) → Ran b p q s → (was is : List ℕ) (n : ℕ) → n ≡ b.graph.cards → s.line.cards ≤ length was
-    → is ≡ listed (marked s.kept) n ++ drop (count (marked s.kept) n) was
-    → Answered b.graph p q was (Ok (record { cards = s.line.cards; links = s.line.links; peels = s.peels })) is
-finds b p q s r was is n e room wrote =
-    let enough : size b.graph (marked s.kept) ≤ length was = omega (arith, cards_are b p q s r) in
-    answered b.graph p q s.height b.lawful (omega (arith, r.least, r.order)) r.height _ (all_marked b.graph b.most) (outcome s) r.search was is
-    (Ok (record { cards = s.line.cards; links = s.line.links; peels = s.peels }))
-    (sym (cond-false _ _ _ (le-ltb _ _ enough))) (cards_are b p q s r, links_are b p q s r, refl)
-    (wrote ∙ (λ i. listed (marked s.kept) (e i) ++ drop (count (marked s.kept) (e i)) was))
+  pub finds : (was is : List ℕ) (n : ℕ) → n ≡ h.cards → s.line.cards ≤ length was
+      → is ≡ listed (marked s.kept) n ++ drop (count (marked s.kept) n) was
+      → Answered h p q was (Ok (record { cards = s.line.cards; links = s.line.links; peels = s.peels })) is
+  finds was is n e room wrote =
+      let enough : size h (marked s.kept) ≤ length was = omega (arith, cards_are) in
+      answered h p q s.height b.lawful (omega (arith, r.least, r.order)) r.height _ (all_marked h b.most) (outcome s) r.search was is
+      (Ok (record { cards = s.line.cards; links = s.line.links; peels = s.peels }))
+      (sym (cond-false _ _ _ (le-ltb _ _ enough))) (cards_are, links_are, refl)
+      (wrote ∙ (λ i. listed (marked s.kept) (e i) ++ drop (count (marked s.kept) (e i)) was))
 
--- no set is much denser than the group, and the group is not empty
-pub bounded : (b : Book) (p q : ℕ) (s : Searched) → Ran b p q s → NoneDenser b.graph p q s.line.links s.line.cards
-bounded b p q s r =
-    subst (λ (l : Line). NoneDenser b.graph p q l.links l.cards) (sym r.sound.line) r.sound.bound
+  -- no set is much denser than the group, and the group is not empty
+  pub bounded : NoneDenser h p q s.line.links s.line.cards
+  bounded = subst (λ (l : Line). NoneDenser h p q l.links l.cards) (sym r.sound.line) r.sound.bound
 
-pub some_kept : (b : Book) (p q : ℕ) (s : Searched) → Ran b p q s → 0 < s.line.cards
-some_kept b p q s r =
-    omega (arith, cards_are b p q s r, search_some r.search (omega (arith, b.least, size_same b.graph _ _ (all_marked b.graph b.most), size_everyone b.graph)))
+  pub some_kept : 0 < s.line.cards
+  some_kept = omega (arith, cards_are, search_some r.search (omega (arith, b.least, size_same h _ _ (all_marked h b.most), size_everyone h)))

@@ -1,56 +1,64 @@
 -- The members of a set, listed in ascending order.
-use Rattle.std.proofs.Common.{◌≡◌, ℕ, zero, suc, ◌+◌, ◌<◌, ◌≤◌, Bool, true, false, cond, List, [], ◌∷◌, ◌++◌, length, get_or, drop, set, sym, refl, ap, ◌∙◌, inl, inr, add-one, arith}
-use Rattle.std.proofs.lemmas.List.{length-append, append_assoc, append-nil, set_at, drop_more}
-use Rattle.std.proofs.lemmas.Bool.{cases_eq}
+use Rattle.std.proofs.Common.{◌≡◌, ℕ, zero, suc, ◌+◌, ◌*◌, ◌<◌, cond, List, [], ◌∷◌, ◌++◌, length, get_or, take, drop, set, sym, refl, ap, ◌∙◌, zero-add, add-one, map-id, arith}
+use Rattle.std.proofs.lemmas.List.{append_assoc, set_at, drop_more, take_more, length-take-le}
+use Rattle.std.proofs.Math.Seq.{take-length}
+use Rattle.std.proofs.lemmas.Grind.{common_steps}
+use Rattle.std.proofs.lemmas.List.FromFn.{filter_of_map_range_with_len_more, length-enumerate_from, get_or-enumerate_from}
+use Rattle.std.specs.List.{range_with_len, filter, sum_by, enumerate_from}
 use Rattle.books.specs.Sums.{sum_to, one}
 use Rattle.peel.specs.Sets.{Cards, listed}
-use Rattle.search.proofs.Tallies.{more_cards}
 
 -- how many members of X there are below u
 abbrev pub count : Cards → ℕ → ℕ
 count X u = sum_to (λ v. one (X v)) u
 
-count_mono : (X : Cards) (a b : ℕ) → a ≤ b → count X a ≤ count X b
-count_mono X a zero h = let e : a ≡ 0 = omega arith in omega (arith, ap (count X) e)
-count_mono X a (suc b) h = elim (cases_eq a (suc b)) [
-  | inl e ↦ omega (arith, ap (count X) e)
-  | inr n ↦ omega (arith, count_mono X a b (omega arith))
-]
-
--- a member below n has a place among those below n
-pub count_below : (X : Cards) (u n : ℕ) → u < n → X u ≡ true → count X u < count X n
-count_below X u n h e = omega (arith, more_cards X u true e, count_mono X (u + 1) n (omega arith))
-
-pub listed_in : (X : Cards) (u : ℕ) → X u ≡ true → listed X (u + 1) ≡ listed X u ++ u ∷ []
-listed_in X u e = ap (listed X) (add-one u) ∙ ap (λ (b : Bool). listed X u ++ cond b (u ∷ []) []) e
-
-pub listed_out : (X : Cards) (u : ℕ) → X u ≡ false → listed X (u + 1) ≡ listed X u
-listed_out X u e = ap (listed X) (add-one u) ∙ ap (λ (b : Bool). listed X u ++ cond b (u ∷ []) []) e ∙ append-nil (listed X u)
-
-pub listed_length : (X : Cards) (u : ℕ) → length (listed X u) ≡ count X u
+listed_length : (X : Cards) (u : ℕ) → length (listed X u) ≡ count X u
 listed_length X zero = refl
-listed_length X (suc u) = length-append (listed X u) (cond (X u) (u ∷ []) []) ∙ pick (X u) (listed_length X u)
-  where
-    pick : (b : Bool) → length (listed X u) ≡ count X u → length (listed X u) + length (cond b (u ∷ []) []) ≡ count X u + one b
-    pick true h = omega arith
-    pick false h = omega arith
+listed_length X (suc u) = grind (arith, common_steps, listed_length X u)
 
--- so far: the members below u stand at the start of the list, and the rest is as it was
-abbrev pub Written : Cards → ℕ → ℕ → List ℕ → List ℕ → Type 0
-Written X u at was is = (at ≡ count X u) × (is ≡ listed X u ++ drop at was)
+-- the numbers below n that pass X
+listed_filter : (X : Cards) (n : ℕ) → filter X (range_with_len 0 n) ≡ listed X n
+listed_filter X zero = refl
+listed_filter X (suc n) =
+    let e : filter X (range_with_len 0 (n + 1)) ≡ filter X (range_with_len 0 n) ++ cond (X n) (n ∷ []) []
+    = simp map-id at (filter_of_map_range_with_len_more X (λ x. x) 0 n n (zero-add n)) in
+    ap (λ (k : ℕ). filter X (range_with_len 0 k)) (sym (add-one n)) ∙ e ∙ ap (λ (xs : List ℕ). xs ++ cond (X n) (n ∷ []) []) (listed_filter X n)
 
-pub written_out : (X : Cards) (u at : ℕ) (was is : List ℕ) → X u ≡ false → Written X u at was is → Written X (u + 1) at was is
-written_out X u at was is e w =
-    (omega (arith, w.0, more_cards X u false e), w.1 ∙ ap (λ (xs : List ℕ). xs ++ drop at was) (sym (listed_out X u e)))
+-- how many they are, and what h adds up to over them
+pub filter_count : (X : Cards) (n : ℕ) → length (filter X (range_with_len 0 n)) ≡ count X n
+filter_count X n = ap length (listed_filter X n) ∙ listed_length X n
 
-pub written_in : (X : Cards) (u at : ℕ) (was is : List ℕ) → X u ≡ true → at < length was → Written X u at was is → Written X (u + 1) (at + 1) was (set is at u)
-written_in X u at was is e l w = (
-  omega (arith, w.0, more_cards X u true e),
-  ap (λ (xs : List ℕ). set xs at u) (w.1 ∙ ap (λ (xs : List ℕ). listed X u ++ xs) (drop_more was at 0 l))
-      ∙ set_at (listed X u) (get_or was at 0) (drop (at + 1) was) u at (listed_length X u ∙ sym w.0)
-      ∙ sym (append_assoc (listed X u) (u ∷ []) (drop (at + 1) was))
-      ∙ ap (λ (xs : List ℕ). xs ++ drop (at + 1) was) (sym (listed_in X u e)),
-)
+listed_sum : (h : ℕ → ℕ) (X : Cards) (n : ℕ) → sum_by h (listed X n) ≡ sum_to (λ v. one (X v) * h v) n
+listed_sum h X zero = refl
+listed_sum h X (suc n) = grind (arith, common_steps, listed_sum h X n)
+
+pub filter_sum : (h : ℕ → ℕ) (X : Cards) (n : ℕ) → sum_by h (filter X (range_with_len 0 n)) ≡ sum_to (λ v. one (X v) * h v) n
+filter_sum h X n = ap (sum_by h) (listed_filter X n) ∙ listed_sum h X n
+
+-- item k of the list xs, counted from 0
+abbrev pub Item : List ℕ → ℕ → ℕ → ℕ → Type 0
+Item xs k at v = (k < length xs) × (at ≡ k) × (v ≡ get_or xs k v)
+
+pub item_at : (xs : List ℕ) (k at v : ℕ) → (k < length (enumerate_from 0 xs)) × ◌≡◌ {A = ℕ × ℕ} (at, v) (get_or (enumerate_from 0 xs) k (at, v)) → Item xs k at v
+item_at xs k at v h = grind (arith, length-enumerate_from 0 xs, get_or-enumerate_from 0 xs k (at, v))
+
+-- the first k items stand at the start of the list, and the rest is as it was
+abbrev pub Written : List ℕ → ℕ → List ℕ → List ℕ → Type 0
+Written xs k was is = is ≡ take k xs ++ drop k was
+
+pub written_more : (xs was is : List ℕ) (k at v : ℕ) → Written xs k was is → Item xs k at v → k < length was → Written xs (k + 1) was (set is at v)
+written_more xs was is k at v w t l =
+    (λ i. set (w i) (t.1 i) (t.2 i))
+    ∙ ap (λ (ys : List ℕ). set (take k xs ++ ys) k (get_or xs k v)) (drop_more was k 0 l)
+    ∙ set_at (take k xs) (get_or was k 0) (drop (k + 1) was) (get_or xs k v) k (length-take-le k xs (omega arith))
+    ∙ sym (append_assoc (take k xs) (get_or xs k v ∷ []) (drop (k + 1) was))
+    ∙ ap (λ (ys : List ℕ). ys ++ drop (k + 1) was) (sym (take_more xs k v t.0))
+
+pub written_all : (X : Cards) (n k : ℕ) (was is : List ℕ) → Written (filter X (range_with_len 0 n)) k was is → k ≡ length (enumerate_from 0 (filter X (range_with_len 0 n)))
+    → is ≡ listed X n ++ drop (count X n) was
+written_all X n k was is w e =
+    let xs = filter X (range_with_len 0 n) in
+    grind (arith, length-enumerate_from 0 xs, take-length xs, listed_filter X n, filter_count X n)
 
 -- sets with the same members are listed alike
 pub listed_same : (X Y : Cards) (n : ℕ) → ((v : ℕ) → v < n → X v ≡ Y v) → listed X n ≡ listed Y n

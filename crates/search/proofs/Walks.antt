@@ -1,5 +1,5 @@
 -- Walks from partner to partner, which count those that are in a set.
-use Rattle.std.proofs.Common.{◌≡◌, ℕ, ◌+◌, ◌≤◌, Bool, true, false, Some, None, sym, refl, ap, ◌∙◌, arith}
+use Rattle.std.proofs.Common.{◌≡◌, ℕ, ◌+◌, ◌≤◌, Bool, false, Some, None, sym, arith}
 use Rattle.books.specs.Sums.{sum_to, one, when}
 use Rattle.books.specs.Graphs.{Graph, weight}
 use Rattle.books.specs.Books.{next_partner}
@@ -12,26 +12,14 @@ abbrev pub counts : Graph → Cards → ℕ → ℕ → ℕ
 counts g X v u = when (X u) (weight g v u)
 
 unlinked : (g : Graph) (X : Cards) (v u : ℕ) → g.linked v u ≡ false → counts g X v u ≡ 0
-unlinked g X v u e = ap (λ (b : Bool). when (X u) (one b)) e ∙ nothing (X u)
-  where
-    nothing : (b : Bool) → when b 0 ≡ 0
-    nothing true = refl
-    nothing false = refl
+unlinked g X v u e = grind arith
 
--- one step of the walk, where the partner x is in X, and where it is not
-pub walk_in : (g : Graph) (X : Cards) (v from x : ℕ) → Some x ≡ next_partner g v from → X x ≡ true
-    → sum_to (counts g X v) (x + 1) ≡ sum_to (counts g X v) from + 1
-walk_in g X v from x h e =
+-- one step of the walk: the partner x counts where it is in X
+pub walk_on : (g : Graph) (X : Cards) (v from x : ℕ) (b : Bool) → Some x ≡ next_partner g v from → b ≡ X x
+    → sum_to (counts g X v) (x + 1) ≡ sum_to (counts g X v) from + one b
+walk_on g X v from x b h e =
     let n : NextIs g v from x = next_some g v from x h in
-    let here : counts g X v x ≡ 1 = ap (λ (b : Bool). when b (weight g v x)) e ∙ ap one n.held in
-    omega (arith, sum_more (counts g X v) x, sum_skip (counts g X v) from x n.above (λ y a b. unlinked g X v y (n.gap y a b)))
-
-pub walk_out : (g : Graph) (X : Cards) (v from x : ℕ) → Some x ≡ next_partner g v from → X x ≡ false
-    → sum_to (counts g X v) (x + 1) ≡ sum_to (counts g X v) from
-walk_out g X v from x h e =
-    let n : NextIs g v from x = next_some g v from x h in
-    let here : counts g X v x ≡ 0 = ap (λ (b : Bool). when b (weight g v x)) e in
-    omega (arith, sum_more (counts g X v) x, sum_skip (counts g X v) from x n.above (λ y a b. unlinked g X v y (n.gap y a b)))
+    grind (arith, n.held, sum_more (counts g X v) x, sum_skip (counts g X v) from x n.above (λ y a b. unlinked g X v y (n.gap y a b)))
 
 pub walk_done : (g : Graph) (X : Cards) (v from : ℕ) → None ≡ next_partner g v from → from ≤ g.cards
     → sum_to (counts g X v) from ≡ partners_in g X v

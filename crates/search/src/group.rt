@@ -1,7 +1,6 @@
 // The search by itself: from all cards, on any book that can be read.
 ghost use Rattle.std.specs.Prelude.{◌≡◌, ℕ, ◌<◌, ◌≤◌, ◌++◌, length, drop, IfOk};
 ghost use Rattle.books.specs.Sums.{sum_to, one};
-ghost use Rattle.books.specs.Books.{Book};
 ghost use Rattle.peel.specs.Sets.{listed};
 ghost use Rattle.peel.specs.Theorems.{NoneDenser};
 ghost use Rattle.search.specs.Rows.{marked};
@@ -19,12 +18,9 @@ fn write_cards(marks: &[bool; 1024], n: u16, list: &mut [u16])
     requires room { sum_to (λ v. one (marked marks.now v)) n ≤ length list.old }
     ensures { list.new ≡ listed (marked marks.now) n ++ drop (sum_to (λ v. one (marked marks.now v)) n) list.old }
 {
-    let mut at: usize = 0;
-    for v in 0..n {
-        if marks[v as usize] {
-            list[at] = v;
-            at += 1;
-        }
+    // By place: of what is written through a `zip` over `iter_mut` a proof knows nothing afterwards.
+    for (at, v) in (0..n).filter(|v| marks[usize::from(*v)]).enumerate() {
+        list[at] = v;
     }
 }
 
@@ -35,19 +31,18 @@ pub fn search<B: ReadingBook>(
     tolerance: Tolerance,
     list: &mut [u16],
 ) -> Result<Group, Refusal>
-    ensures answer { Answered (B.ReadingBook.book book.now).graph tolerance.p tolerance.q list.old result list.new }
-    ensures bound { IfOk result (λ f. NoneDenser (B.ReadingBook.book book.now).graph tolerance.p tolerance.q f.links f.cards) }
+    ensures answer { Answered (B.graph book.now) tolerance.p tolerance.q list.old result list.new }
+    ensures bound { IfOk result (λ f. NoneDenser (B.graph book.now) tolerance.p tolerance.q f.links f.cards) }
     ensures some { IfOk result (λ f. 0 < f.cards) }
 {
     let n = book.cards();
     let Searched {
         kept,
         line,
-        levels: _,
-        height: _,
         peels,
+        ..
     } = search_from(book, tolerance, [true; 1024]);
-    if list.len() < line.cards as usize {
+    if list.len() < usize::from(line.cards) {
         return Err(Refusal::ListTooShort);
     }
     write_cards(&kept, n, list);

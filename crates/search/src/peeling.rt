@@ -1,31 +1,24 @@
 // A whole peel, round by round, with the best of its sets.
 ghost use Rattle.std.specs.Prelude.{◌≡◌, ℕ, ◌<◌, ◌≤◌, length, if◌then◌else◌, nat_lt};
-ghost use Rattle.books.specs.Books.{Book};
-ghost use Rattle.peel.specs.Peels.{PeelLevels, Best, peel_cards, peel_links};
+ghost use Rattle.peel.specs.Lines.{line_of};
+ghost use Rattle.peel.specs.Peels.{peel, PeelLevels, Best};
 ghost use Rattle.search.specs.Rows.{rows, rules_of};
 
 use super::best::BestSet;
 use super::round::round;
 use super::setting::Setting;
 use books::ReadingBook;
+use peel::Line;
 
 // Lifts every row above `level` to `height`.
 fn lift(levels: &mut [u16; 1024], level: u16, height: u16)
     ensures { (v : ℕ) → v < 1024 → rows levels.new v ≡ (if nat_lt level (rows levels.old v) then height else rows levels.old v) }
 {
-    for v in 0..1024usize {
-        if levels[v] > level {
-            levels[v] = height;
+    for l in levels.iter_mut() {
+        if *l > level {
+            *l = height;
         }
     }
-}
-
-// A table of zeros.
-fn zeros() -> [u16; 1024]
-    ensures long { length result ≡ 1024 }
-    ensures zero { (v : ℕ) → rows result v ≡ 0 }
-{
-    [0; 1024]
 }
 
 // What a peel leaves: the levels, and the best of its sets.
@@ -40,30 +33,30 @@ pub(crate) struct Peel {
 pub(crate) fn peel_book<B: ReadingBook>(book: &B, setting: Setting) -> Peel
     requires least { 1 ≤ setting.height }
     requires most { setting.height ≤ 1024 }
-    ensures levels { PeelLevels (rules_of (B.ReadingBook.book book.now).graph setting) (rows result.levels) }
-    ensures best { Best (rules_of (B.ReadingBook.book book.now).graph setting) result.best.level }
-    ensures cards { result.best.cards ≡ peel_cards (rules_of (B.ReadingBook.book book.now).graph setting) result.best.level }
-    ensures links { result.best.links ≡ peel_links (rules_of (B.ReadingBook.book book.now).graph setting) result.best.level }
+    ensures levels { PeelLevels (rules_of (B.graph book.now) setting) (rows result.levels) }
+    ensures best { Best (rules_of (B.graph book.now) setting) result.best.level }
+    ensures line { result.best.line ≡ line_of (B.graph book.now) (peel (rules_of (B.graph book.now) setting) result.best.level) }
 {
-    let mut levels = zeros();
+    let mut levels = [0; 1024];
     let mut best = BestSet {
         level: 0,
-        cards: book.cards(),
-        links: book.links(),
+        line: Line {
+            links: book.links(),
+            cards: book.cards(),
+        },
     };
     for t in 0..setting.height {
         let tally = round(book, setting, t, &mut levels);
         best = best.or_denser(BestSet {
             level: t,
-            cards: tally.cards,
-            links: tally.ends / 2,
+            line: tally.line,
         });
         if tally.stayed == 0 {
-            return Peel { levels, best };
+            break;
         }
-        if tally.stayed == tally.cards {
+        if tally.stayed == tally.line.cards {
             lift(&mut levels, t, setting.height);
-            return Peel { levels, best };
+            break;
         }
     }
     Peel { levels, best }

@@ -1,19 +1,18 @@
 // One round of a peel: from the set of the cards at level t or higher to the next.
-ghost use Rattle.std.specs.Prelude.{◌≡◌, ℕ, suc, ◌+◌, ◌*◌, ◌<◌};
-ghost use Rattle.books.specs.Books.{Book};
-ghost use Rattle.peel.specs.Peels.{LevelsUpTo, peel_cards, peel_links};
+ghost use Rattle.std.specs.Prelude.{◌≡◌, ℕ, suc, ◌<◌};
+ghost use Rattle.peel.specs.Lines.{line_of};
+ghost use Rattle.peel.specs.Peels.{peel, peel_cards, LevelsUpTo};
 ghost use Rattle.search.specs.Rows.{rows, rules_of};
 
 use super::partners::partners_in;
-use super::sets::AtLeast;
 use super::setting::Setting;
 use books::ReadingBook;
+use peel::Line;
 
-// What a round met: the cards of its set, their partners within it added up, and how many cards stay.
+// What a round met: the line that its set makes, and how many cards stay.
 #[derive(Clone, Copy)]
 pub(crate) struct Tally {
-    pub cards: u16,
-    pub ends: u32,
+    pub line: Line,
     pub stayed: u16,
 }
 
@@ -27,30 +26,33 @@ pub(crate) fn round<B: ReadingBook>(
     levels: &mut [u16; 1024],
 ) -> Tally
     requires few { t < 1024 }
-    requires before { LevelsUpTo (rules_of (B.ReadingBook.book book.now).graph setting) t (rows levels.old) }
-    ensures after { LevelsUpTo (rules_of (B.ReadingBook.book book.now).graph setting) (suc t) (rows levels.new) }
-    ensures cards { result.cards ≡ peel_cards (rules_of (B.ReadingBook.book book.now).graph setting) t }
-    ensures ends { result.ends ≡ 2 * peel_links (rules_of (B.ReadingBook.book book.now).graph setting) t }
-    ensures stayed { result.stayed ≡ peel_cards (rules_of (B.ReadingBook.book book.now).graph setting) (suc t) }
+    requires before { LevelsUpTo (rules_of (B.graph book.now) setting) t (rows levels.old) }
+    ensures after { LevelsUpTo (rules_of (B.graph book.now) setting) (suc t) (rows levels.new) }
+    ensures line { result.line ≡ line_of (B.graph book.now) (peel (rules_of (B.graph book.now) setting) t) }
+    ensures stayed { result.stayed ≡ peel_cards (rules_of (B.graph book.now) setting) (suc t) }
 {
     let n = book.cards();
     let mut cards: u16 = 0;
     let mut ends: u32 = 0;
     let mut stayed: u16 = 0;
+    // By number: each card asks about the others' rows, and then its own may change.
     for u in 0..n {
-        if levels[u as usize] >= t {
-            let partners = partners_in(book, &AtLeast { levels, level: t }, u);
+        let row = usize::from(u);
+        if levels[row] >= t {
+            let partners = u32::from(partners_in(book, |v| levels[usize::from(v)] >= t, u));
             cards += 1;
-            ends += partners as u32;
-            if !setting.line.below(setting.tolerance, partners as u32) {
-                levels[u as usize] = t + 1;
+            ends += partners;
+            if !setting.line.below(setting.tolerance, partners) {
+                levels[row] = t + 1;
                 stayed += 1;
             }
         }
     }
     Tally {
-        cards,
-        ends,
+        line: Line {
+            links: ends / 2,
+            cards,
+        },
         stayed,
     }
 }

@@ -1,6 +1,5 @@
 // The search from a set of cards: peel after peel, until no set of a peel reaches the line.
 ghost use Rattle.std.specs.Prelude.{◌≡◌, ℕ, ◌<◌, ◌≤◌, length, nat_le};
-ghost use Rattle.books.specs.Books.{Book};
 ghost use Rattle.peel.specs.Tolerances.{Height};
 ghost use Rattle.peel.specs.Lines.{line_of};
 ghost use Rattle.peel.specs.Searches.{Search};
@@ -11,24 +10,21 @@ ghost use Rattle.search.specs.Outcomes.{outcome};
 use super::partners::partners_in;
 use super::peeling::{Peel, peel_book};
 use super::searched::Searched;
-use super::sets::Marked;
 use super::setting::Setting;
 use books::ReadingBook;
 use peel::{Line, Tolerance};
 
 // The line that a set makes. Walks over the partners of each card of the set.
 fn line_of<B: ReadingBook>(book: &B, set: &[bool; 1024]) -> Line
-    ensures { result ≡ line_of (B.ReadingBook.book book.now).graph (marked set.now) }
+    ensures { result ≡ line_of (B.graph book.now) (marked set.now) }
 {
     let n = book.cards();
-    let mut cards: u16 = 0;
-    let mut ends: u32 = 0;
-    for u in 0..n {
-        if set[u as usize] {
-            cards += 1;
-            ends += partners_in(book, &Marked { marks: set }, u) as u32;
-        }
-    }
+    let is_in = |v: u16| set[usize::from(v)];
+    let cards = (0..n).filter(|u| is_in(*u)).count() as u16;
+    let ends: u32 = (0..n)
+        .filter(|u| is_in(*u))
+        .map(|u| u32::from(partners_in(book, is_in, u)))
+        .sum();
     Line {
         links: ends / 2,
         cards,
@@ -39,19 +35,16 @@ fn line_of<B: ReadingBook>(book: &B, set: &[bool; 1024]) -> Line
 fn marks_at(levels: &[u16; 1024], level: u16) -> [bool; 1024]
     ensures { (v : ℕ) → v < 1024 → marked result v ≡ nat_le level (rows levels.now v) }
 {
-    let mut marks = [false; 1024];
-    for v in 0..1024usize {
-        marks[v] = levels[v] >= level;
-    }
-    marks
+    levels.map(|l| l >= level)
 }
 
 // The search from any set of cards, marked by their numbers. Each peel but the last makes the kept
-// set denser, so there is at most one peel more than the cube of the number of cards.
+// set denser, so there is at most one peel more than the cube of the number of cards. It is a rule of the project that
+// the search is a loop which yields, by `break`, what it leaves.
 pub fn search_from<B: ReadingBook>(book: &B, tolerance: Tolerance, start: [bool; 1024]) -> Searched
-    ensures outcome { Search (B.ReadingBook.book book.now).graph tolerance.p tolerance.q result.height (marked start) (outcome result) }
-    ensures height { Height tolerance.p tolerance.q (B.ReadingBook.book book.now).graph.cards result.height }
-    ensures sound { Sound (B.ReadingBook.book book.now).graph tolerance.p tolerance.q result.height (outcome result) }
+    ensures outcome { Search (B.graph book.now) tolerance.p tolerance.q result.height (marked start) (outcome result) }
+    ensures height { Height tolerance.p tolerance.q (B.graph book.now).cards result.height }
+    ensures sound { Sound (B.graph book.now) tolerance.p tolerance.q result.height (outcome result) }
 {
     let height = tolerance.height(book.cards());
     let mut group = start;
@@ -67,7 +60,7 @@ pub fn search_from<B: ReadingBook>(book: &B, tolerance: Tolerance, start: [bool;
             },
         );
         peels += 1;
-        if !line.reached_by(tolerance, best.links, best.cards) {
+        if !line.reached_by(tolerance, best.line) {
             break 'search Searched {
                 kept: group,
                 line,
@@ -77,9 +70,6 @@ pub fn search_from<B: ReadingBook>(book: &B, tolerance: Tolerance, start: [bool;
             };
         }
         group = marks_at(&levels, best.level);
-        line = Line {
-            links: best.links,
-            cards: best.cards,
-        };
+        line = best.line;
     }
 }

@@ -2,7 +2,6 @@
 // `reference.py` computes on its own from the rules.
 #![tactic(auto)]
 
-mod dice;
 mod shape;
 
 use bit_book::BitBook;
@@ -50,7 +49,7 @@ fn main(rt: HostRuntime) -> io::Result<()> {
     search_shape(&rt, 1024, Shape::Planted)
 }
 
-// Makes the graph, and searches it at each tolerance.
+// Makes the graph, and searches it at each tolerance. Memory and list are fixed, so that no case can run out.
 fn search_shape(rt: &HostRuntime, n: u16, shape: Shape) -> io::Result<()> {
     let mut memory = [0; 65472];
     let mut book = BitBook::new(n, &mut memory);
@@ -61,19 +60,22 @@ fn search_shape(rt: &HostRuntime, n: u16, shape: Shape) -> io::Result<()> {
     Ok(())
 }
 
-// Puts the links of the shape in, with a roll for each pair in ascending order.
+// Puts the links of the shape in, with a roll for each pair in ascending order. In an iterator of links the rolls would
+// hide in a closure.
 fn link<B: WritingBook>(book: &mut B, shape: Shape) {
     let n = book.cards();
     let mut dice = Dice::new(u32::from(n));
     for u in 0..n {
         for v in u + 1..n {
-            if shape.links(n, u, v, dice.roll()) {
+            // the upper half of the roll, since the lower bits repeat soon
+            if shape.links(n, u, v, dice.roll() >> 16) {
                 let _ = book.put(u, v);
             }
         }
     }
 }
 
+// Searches at one tolerance, and prints its line.
 fn search_at<B: ReadingBook>(
     rt: &HostRuntime,
     book: &B,
@@ -81,10 +83,11 @@ fn search_at<B: ReadingBook>(
     p: u16,
     q: u16,
 ) -> io::Result<()> {
-    let n = book.cards();
-    let links = book.links();
-    let name = shape.name();
-    print!(rt; "{n} {name} {p}/{q}: {links} links, ")?;
+    print!(rt;
+        "{} {shape} {p}/{q}: {} links, ",
+        book.cards(),
+        book.links()
+    )?;
     let Ok(tolerance) = Tolerance::new(p, q) else {
         return println!(rt; "no such tolerance");
     };
@@ -92,31 +95,28 @@ fn search_at<B: ReadingBook>(
     let Ok(group) = search(book, tolerance, &mut list) else {
         return println!(rt; "no room for the group");
     };
-    let size = group.cards;
-    let inside = group.links;
-    let peels = group.peels;
-    print!(rt; "group of {size} with {inside} after {peels}: ")?;
-    show(rt, &list, usize::from(size))
+    print!(rt;
+        "group of {} with {} after {}: ",
+        group.cards, group.links, group.peels
+    )?;
+    show(rt, &list[..usize::from(group.cards)])
 }
 
-// Prints the first so many numbers of the list, or where they are many a number made of them.
-fn show(rt: &HostRuntime, list: &[u16], count: usize) -> io::Result<()> {
-    if count > SHOWN {
-        let sum = mixed(list, count);
-        return println!(rt; "sum {sum}");
+// Prints the cards, or where they are many a number made of them.
+fn show(rt: &HostRuntime, cards: &[u16]) -> io::Result<()> {
+    if cards.len() > SHOWN {
+        return println!(rt; "sum {}", mixed(cards));
     }
     print!(rt; "cards")?;
-    for card in list.iter().take(count) {
+    for card in cards {
         print!(rt; " {card}")?;
     }
     println!(rt; "")
 }
 
-// A number in which every one of the first so many numbers, and their order, has a part.
-fn mixed(list: &[u16], count: usize) -> u32 {
-    let mut sum: u32 = 0;
-    for card in list.iter().take(count) {
-        sum = sum.wrapping_mul(31).wrapping_add(u32::from(*card));
-    }
-    sum
+// A number in which every one of the cards, and their order, has a part.
+fn mixed(cards: &[u16]) -> u32 {
+    cards.iter().fold(0u32, |sum, card| {
+        sum.wrapping_mul(31).wrapping_add(u32::from(*card))
+    })
 }

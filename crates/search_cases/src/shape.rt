@@ -1,5 +1,8 @@
-// The shapes of graphs that are searched.
+// The shapes of graphs that are searched. A shape is data, with a name that is printed and a place in a table, so which
+// pairs it links is a `match` and not a closure.
 ghost use Rattle.std.specs.Prelude.{◌<◌};
+
+use std::fmt;
 
 #[derive(Clone, Copy)]
 pub enum Shape {
@@ -26,21 +29,6 @@ pub enum Shape {
 }
 
 impl Shape {
-    pub(crate) fn name(self) -> &'static str {
-        match self {
-            Shape::Empty => "empty",
-            Shape::Full => "full",
-            Shape::Sparse => "sparse",
-            Shape::Dense => "dense",
-            Shape::Lone => "lone",
-            Shape::Planted => "planted",
-            Shape::Blocks => "blocks",
-            Shape::Nested => "nested",
-            Shape::Tail => "tail",
-            Shape::Wedge => "wedge",
-        }
-    }
-
     // Whether the pair u < v of n cards is linked, at this roll for it.
     pub(crate) fn links(self, n: u16, u: u16, v: u16, roll: u32) -> bool
         requires { 0 < n }
@@ -62,5 +50,22 @@ impl Shape {
             Shape::Tail => v < 6 || v <= u + 2 && 5 * v < 2 * n,
             Shape::Wedge => v <= u + u * u / (8 * n),
         }
+    }
+}
+
+impl fmt::Display for Shape {
+    fn fmt<W: fmt::Write>(&self, f: &mut fmt::Formatter<W>) -> fmt::Result {
+        f.write_str(match self {
+            Shape::Empty => "empty",
+            Shape::Full => "full",
+            Shape::Sparse => "sparse",
+            Shape::Dense => "dense",
+            Shape::Lone => "lone",
+            Shape::Planted => "planted",
+            Shape::Blocks => "blocks",
+            Shape::Nested => "nested",
+            Shape::Tail => "tail",
+            Shape::Wedge => "wedge",
+        })
     }
 }

@@ -1,15 +1,39 @@
-use Rattle.std.proofs.Common.{◌%◌, eqb, length, sym}
-use Rattle.std.proofs.lemmas.Bool.{and_right}
-use Rattle.closed_book.specs.Lists.{pair_count, pair_suits, every}
-use Rattle.closed_book.proofs.Tests.{every_not, every_more}
+use Rattle.std.proofs.Common.{◌≡◌, ℕ, zero, suc, ◌%◌, ◌<◌, Bool, not, ◌&&◌, ltb, nat_cmp, List, [], length, get_or, Some, Option, ap, arith}
+use Rattle.std.specs.Ordering.{is_ge, is_some_and}
+use Rattle.std.specs.Option.{option_partial_cmp}
+use Rattle.std.specs.Cmp.Lexicographic.{slice_partial_cmp}
+use Rattle.std.proofs.lemmas.Bool.Decides.{nat_tests}
+use Rattle.closed_book.specs.Lists.{pair_count, pair_at, pair_suits}
+use Rattle.closed_book.proofs.Tests.{every_not}
+use Rattle.closed_book.proofs.Pairs.{array}
+use Rattle.closed_book.proofs.Chunks.{chunks, length_chunks, chunk_at}
+use Rattle.closed_book.proofs.list.in_order.Invariants.{pair_below}
 use Rattle.closed_book.proofs.list.in_order.Goals as goal
 
-pub returns-then-not-pair_suits : goal.returns-then-not-pair_suits
-returns-then-not-pair_suits c =
-    let xs = c.args.list.now in
-    sym (and_right (eqb (length xs % 2) 0) (every (pair_suits c.args.cards xs) (pair_count xs))
-    (every_not (pair_suits c.args.cards xs) (pair_count xs) c.loop-k.k c.loop-k-test.true (sym c.if-not-pair_suits.ensures)))
+-- what the loop tests of the pair a and of the pair before it
+abbrev pub tested : ℕ → List ℕ → Option (List ℕ) → Bool
+tested n a last = (ltb (get_or a 0 0) (get_or a 1 0) && ltb (get_or a 1 0) n) && not (is_some_and is_ge (option_partial_cmp (slice_partial_cmp (λ x y. Some (nat_cmp x y))) last (Some a)))
 
-pub loop-k-preserved : goal.loop-k-preserved
-loop-k-preserved c =
-    every_more (pair_suits c.args.cards c.args.list.now) c.loop-k.k c.loop-k.invariant (sym c.if-not-pair_suits.ensures)
+tests : (n : ℕ) (xs : List ℕ) (k : ℕ) (a : List ℕ) (last : Option (List ℕ)) → a ≡ array (pair_at xs k) → last ≡ pair_below xs k → pair_suits n xs k ≡ tested n a last
+tests n xs zero a last e f = grind (arith, nat_tests)
+tests n xs (suc k) a last e f = rw (e, f) (grind (arith, nat_tests))
+
+-- where the loop is: at a pair of the list, which is as it tests
+met : (n : ℕ) (xs : List ℕ) (k : ℕ) (ps : List (List ℕ)) (last : Option (List ℕ)) → ps ≡ chunks xs → k < length ps → last ≡ pair_below xs k → (k < pair_count xs) × (get_or ps k [] ≡ array (pair_at xs k)) × (pair_suits n xs k ≡ tested n (get_or ps k []) last)
+met n xs k ps last e l f =
+    let i : k < pair_count xs = omega (arith, ap length e, length_chunks xs) in
+    let a : get_or ps k [] ≡ array (pair_at xs k) = rw e (chunk_at xs k [] i) in
+    (i, a, tests n xs k _ last a f)
+
+pub returns-then-lower-higher : goal.returns-then-lower-higher
+returns-then-lower-higher c =
+    let m = met c.args.cards c.args.list.now c.loop-pair.pair-index _ c.loop-pair.last c.as_chunks.ensures.front c.loop-pair-test.true c.loop-pair.invariant.1 in
+    grind (arith, nat_tests, m.2, every_not (pair_suits c.args.cards c.args.list.now) (pair_count c.args.list.now) c.loop-pair.pair-index m.0)
+
+pub loop-pair-preserved : goal.loop-pair-preserved
+loop-pair-preserved c =
+    let m = met c.args.cards c.args.list.now c.loop-pair.pair-index _ c.loop-pair.last c.as_chunks.ensures.front c.loop-pair-test.true c.loop-pair.invariant.1 in
+    (grind (arith, nat_tests, m.2), grind (arith, nat_tests, m.1))
+
+pub returns : goal.returns
+returns c = let none_left : length c.args.list.now % 2 ≡ 0 = omega arith in grind (arith, nat_tests)

@@ -1,10 +1,9 @@
-use Rattle.std.proofs.Common.{ap, ◌∙◌}
-use Rattle.link_text.specs.Lines.{link_in}
-use Rattle.link_text.proofs.Backs.{link_back}
+use Rattle.std.proofs.Common.{rules}
+use Rattle.link_text.proofs.Backs.{link_written}
 use Rattle.link_text.proofs.line.read_link.Goals as goal
 
-pub returns : goal.returns
-returns c = record {
-  is = c.two_numbers.ensures;
-  written = λ u v h k e. c.two_numbers.ensures ∙ (ap link_in e ∙ link_back u v h k);
-}
+pub returns-in_err-u-clause-written : goal.returns-in_err-u-clause-written
+returns-in_err-u-clause-written c = link_written c.args.line.now _ (search rules)
+
+pub returns-clause-written : goal.returns-clause-written
+returns-clause-written c = link_written c.args.line.now _ (search rules)

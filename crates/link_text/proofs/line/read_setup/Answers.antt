@@ -1,10 +1,9 @@
-use Rattle.std.proofs.Common.{ap, ◌∙◌}
-use Rattle.link_text.specs.Lines.{setup_in}
-use Rattle.link_text.proofs.Backs.{setup_back}
+use Rattle.std.proofs.Common.{rules}
+use Rattle.link_text.proofs.Backs.{setup_written}
 use Rattle.link_text.proofs.line.read_setup.Goals as goal
 
-pub returns : goal.returns
-returns c = record {
-  is = c.three_numbers.ensures;
-  written = λ s h k l e. c.three_numbers.ensures ∙ (ap setup_in e ∙ setup_back s h k l);
-}
+pub returns-in_err-cards-clause-written : goal.returns-in_err-cards-clause-written
+returns-in_err-cards-clause-written c = setup_written c.args.line.now _ (search rules)
+
+pub returns-clause-written : goal.returns-clause-written
+returns-clause-written c = setup_written c.args.line.now _ (search rules)

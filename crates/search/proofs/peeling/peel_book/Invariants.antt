@@ -3,4 +3,4 @@ use Rattle.search.proofs.Peelings.{Peeling}
 use Rattle.search.proofs.peeling.peel_book.Given as goal
 
 abbrev pub invariant-loop-t : goal.invariant-loop-t
-invariant-loop-t g l = Peeling (rules_of (g.B.ReadingBook.book l.book).graph l.setting) l.t l.levels l.best
+invariant-loop-t g l = Peeling (rules_of (g.B.ReadingBook.graph l.book) l.setting) l.t l.levels l.best

@@ -1,9 +1,7 @@
-use Rattle.std.proofs.Common.{refl, ap, ◌∙◌, arith}
-use Rattle.books.specs.Graphs.{link_count}
+use Rattle.std.proofs.Common.{ap, ◌∙◌, arith}
 use Rattle.bit_book.specs.Layout.{cleared}
-use Rattle.bit_book.specs.Meaning.{bit_graph, bit_linked}
 use Rattle.bit_book.proofs.Places.{cleared_linked}
-use Rattle.bit_book.proofs.Writes.{cleared_count, made_kept}
+use Rattle.bit_book.proofs.Writes.{made_kept}
 use Rattle.bit_book.proofs.book.BitBook.new.Goals as goal
 
 pub invariant_of-result : goal.invariant_of-result
@@ -13,13 +11,7 @@ invariant_of-result c =
     (c.clear.ensures ∙ ap (λ b. cleared b c.args.memory.now) c.bytes_for.ensures) in
     record { least = c.cards_for-cards.ensures.least; most = c.cards_for-cards.ensures.most; fits = k.0; tally = k.1; padding = k.2 }
 
-pub returns : goal.returns
-returns c =
-    let e = c.clear.ensures ∙ ap (λ b. cleared b c.args.memory.now) c.bytes_for.ensures in
-    record {
-      cards = c.cards_for-cards.ensures.is;
-      none = λ u v. ap (λ xs. bit_linked c.cards_for-cards.result xs u v) e ∙ cleared_linked c.cards_for-cards.result c.args.memory.now u v;
-      links = ap (λ xs. link_count (bit_graph c.cards_for-cards.result xs)) e ∙ cleared_count c.cards_for-cards.result c.args.memory.now;
-      memory = e;
-      lent = refl;
-    }
+pub returns-clause-none : goal.returns-clause-none
+returns-clause-none c = λ u v.
+    rw (c.clear.ensures ∙ ap (λ b. cleared b c.args.memory.now) c.bytes_for.ensures)
+    (cleared_linked c.cards_for-cards.result c.args.memory.now u v)

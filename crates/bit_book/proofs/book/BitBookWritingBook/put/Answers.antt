@@ -1,42 +1,41 @@
-use Rattle.std.proofs.Common.{refl, arith}
-use Rattle.books.proofs.Sums.{tri_is, tri_small}
-use Rattle.bit_book.specs.Layout.{bit_of}
-use Rattle.bit_book.proofs.Writes.{ready, byte_in, wrote_is, room_left, put_answer, put_kept, put_wrote}
+use Rattle.std.proofs.Common.{◌≡◌, ap, sym, ◌∙◌, arith, rules}
+use Rattle.std.specs.Result.{result_err}
+use Rattle.books.specs.Refusals.{put_refusal}
+use Rattle.books.proofs.Sums.{tri_small}
+use Rattle.books.proofs.Links.{links_most, put_may}
+use Rattle.bit_book.specs.Layout.{turned}
+use Rattle.bit_book.specs.Meaning.{bit_graph}
+use Rattle.bit_book.proofs.Writes.{byte_in, put_graph, put_kept, never_full}
 use Rattle.bit_book.proofs.book.BitBookWritingBook.put.Goals as goal
 
-pub bounds-self-i : goal.bounds-self-i
-bounds-self-i c =
+pub turn-requires : goal.turn-requires
+turn-requires c =
     let s = c.args.self.now in
-    let r = ready s.cards s.memory.now c.args.u c.args.v c.if-u-self.false c.if-v-self.false c.if-u-v.false s.fits in
-    byte_in s.cards s.memory.now c.args.u c.args.v c.pair_bit-k.result c.pair_bit-k.ensures r
-
-pub bounds-self-i-2 : goal.bounds-self-i-2
-bounds-self-i-2 c =
-    let s = c.args.self.now in
-    let r = ready s.cards s.memory.now c.args.u c.args.v c.if-u-self.false c.if-v-self.false c.if-u-v.false s.fits in
-    byte_in s.cards s.memory.now c.args.u c.args.v c.pair_bit-k.result c.pair_bit-k.ensures r
+    let m = put_may (bit_graph s.cards s.memory.now) c.places.result c.args.u c.args.v (sym c.in_ok-may_put.ensures) in
+    byte_in s.cards s.memory.now c.args.u c.args.v c.pair_bit.result c.pair_bit.ensures (record { ends = m.ends; fits = s.fits })
 
 pub overflow_add-self : goal.overflow_add-self
 overflow_add-self c =
     let s = c.args.self.now in
-    let r = ready s.cards s.memory.now c.args.u c.args.v c.if-u-self.false c.if-v-self.false c.if-u-v.false s.fits in
-    omega (arith, s.tally, tri_is s.cards, tri_small s.cards s.most, room_left s.cards s.memory.now c.args.u c.args.v r c.if-holds.ensures)
+    omega (arith, s.tally, links_most (bit_graph s.cards s.memory.now), tri_small s.cards s.most)
 
 pub invariant_of-self : goal.invariant_of-self
 invariant_of-self c =
     let s = c.args.self.now in
-    let r = ready s.cards s.memory.now c.args.u c.args.v c.if-u-self.false c.if-v-self.false c.if-u-v.false s.fits in
-    let k = put_kept s.cards s.links s.memory.now c.args.u c.args.v c.pair_bit-k.result c.pair_bit-k.ensures r c.if-holds.ensures (s.fits, s.tally, s.padding) in
-    record { least = s.least; most = s.most; fits = k.0; tally = k.1; padding = k.2 }
+    let m = put_may (bit_graph s.cards s.memory.now) c.places.result c.args.u c.args.v (sym c.in_ok-may_put.ensures) in
+    let k = put_kept s.cards s.links s.memory.now c.args.u c.args.v (record { ends = m.ends; fits = s.fits }) m.out (s.fits, s.tally, s.padding) in
+    rw (c.turn.ensures ∙ ap (turned s.memory.now) c.pair_bit.ensures)
+    (record { least = s.least; most = s.most; fits = k.0; tally = k.1; padding = k.2 })
 
-pub returns : goal.returns
-returns c =
+pub returns-clause-links : goal.returns-clause-links
+returns-clause-links c =
     let s = c.args.self.now in
-    let r = ready s.cards s.memory.now c.args.u c.args.v c.if-u-self.false c.if-v-self.false c.if-u-v.false s.fits in
-    record {
-      answer = put_answer s.cards s.memory.now c.args.u c.args.v r c.if-holds.ensures;
-      links = put_wrote s.cards s.memory.now c.args.u c.args.v c.pair_bit-k.result c.pair_bit-k.ensures r c.if-holds.ensures;
-      places = refl;
-      memory = wrote_is s.memory.now c.pair_bit-k.result (bit_of c.args.u c.args.v) c.pair_bit-k.ensures;
-      lent = refl;
-    }
+    let m = put_may (bit_graph s.cards s.memory.now) c.places.result c.args.u c.args.v (sym c.in_ok-may_put.ensures) in
+    rw (c.turn.ensures ∙ ap (turned s.memory.now) c.pair_bit.ensures)
+    (put_graph s.cards s.memory.now c.args.u c.args.v (record { ends = m.ends; fits = s.fits }) m.out)
+
+pub returns-in_err-may_put-clause-room : goal.returns-in_err-may_put-clause-room
+returns-in_err-may_put-clause-room c = λ e.
+    let s = c.args.self.now in
+    let a : result_err c.from_residual.result ≡ put_refusal (bit_graph s.cards s.memory.now) c.places.result c.args.u c.args.v = search rules in
+    never_full s.cards c.places.result s.memory.now c.args.u c.args.v s.fits c.places.ensures (sym a ∙ ap result_err e)

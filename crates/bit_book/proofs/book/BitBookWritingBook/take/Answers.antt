@@ -1,41 +1,33 @@
-use Rattle.std.proofs.Common.{refl, arith}
-use Rattle.bit_book.specs.Layout.{bit_of}
-use Rattle.bit_book.proofs.Writes.{ready, byte_in, wrote_is, take_tally, take_answer, take_kept, take_wrote}
+use Rattle.std.proofs.Common.{ap, sym, ◌∙◌, arith}
+use Rattle.books.proofs.Links.{take_may}
+use Rattle.bit_book.specs.Layout.{turned}
+use Rattle.bit_book.specs.Meaning.{bit_graph}
+use Rattle.bit_book.proofs.Writes.{byte_in, take_graph, take_tally, take_kept}
 use Rattle.bit_book.proofs.book.BitBookWritingBook.take.Goals as goal
 
-pub bounds-self-i : goal.bounds-self-i
-bounds-self-i c =
+pub turn-requires : goal.turn-requires
+turn-requires c =
     let s = c.args.self.now in
-    let r = ready s.cards s.memory.now c.args.u c.args.v c.if-u-self.false c.if-v-self.false c.if-u-v.false s.fits in
-    byte_in s.cards s.memory.now c.args.u c.args.v c.pair_bit-k.result c.pair_bit-k.ensures r
-
-pub bounds-self-i-2 : goal.bounds-self-i-2
-bounds-self-i-2 c =
-    let s = c.args.self.now in
-    let r = ready s.cards s.memory.now c.args.u c.args.v c.if-u-self.false c.if-v-self.false c.if-u-v.false s.fits in
-    byte_in s.cards s.memory.now c.args.u c.args.v c.pair_bit-k.result c.pair_bit-k.ensures r
+    let m = take_may (bit_graph s.cards s.memory.now) c.args.u c.args.v (sym c.in_ok-may_take.ensures) in
+    byte_in s.cards s.memory.now c.args.u c.args.v c.pair_bit.result c.pair_bit.ensures (record { ends = m.ends; fits = s.fits })
 
 pub overflow_sub-self : goal.overflow_sub-self
 overflow_sub-self c =
     let s = c.args.self.now in
-    let r = ready s.cards s.memory.now c.args.u c.args.v c.if-u-self.false c.if-v-self.false c.if-u-v.false s.fits in
-    omega (arith, s.tally, take_tally s.cards s.memory.now c.args.u c.args.v r c.if-not-holds.ensures)
+    let m = take_may (bit_graph s.cards s.memory.now) c.args.u c.args.v (sym c.in_ok-may_take.ensures) in
+    omega (arith, s.tally, take_tally s.cards s.memory.now c.args.u c.args.v (record { ends = m.ends; fits = s.fits }) m.held)
 
 pub invariant_of-self : goal.invariant_of-self
 invariant_of-self c =
     let s = c.args.self.now in
-    let r = ready s.cards s.memory.now c.args.u c.args.v c.if-u-self.false c.if-v-self.false c.if-u-v.false s.fits in
-    let k = take_kept s.cards s.links s.memory.now c.args.u c.args.v c.pair_bit-k.result c.pair_bit-k.ensures r c.if-not-holds.ensures (s.fits, s.tally, s.padding) in
-    record { least = s.least; most = s.most; fits = k.0; tally = k.1; padding = k.2 }
+    let m = take_may (bit_graph s.cards s.memory.now) c.args.u c.args.v (sym c.in_ok-may_take.ensures) in
+    let k = take_kept s.cards s.links s.memory.now c.args.u c.args.v (record { ends = m.ends; fits = s.fits }) m.held (s.fits, s.tally, s.padding) in
+    rw (c.turn.ensures ∙ ap (turned s.memory.now) c.pair_bit.ensures)
+    (record { least = s.least; most = s.most; fits = k.0; tally = k.1; padding = k.2 })
 
-pub returns : goal.returns
-returns c =
+pub returns-clause-links : goal.returns-clause-links
+returns-clause-links c =
     let s = c.args.self.now in
-    let r = ready s.cards s.memory.now c.args.u c.args.v c.if-u-self.false c.if-v-self.false c.if-u-v.false s.fits in
-    record {
-      answer = take_answer s.cards s.memory.now c.args.u c.args.v r c.if-not-holds.ensures;
-      links = take_wrote s.cards s.memory.now c.args.u c.args.v c.pair_bit-k.result c.pair_bit-k.ensures r c.if-not-holds.ensures;
-      places = refl;
-      memory = wrote_is s.memory.now c.pair_bit-k.result (bit_of c.args.u c.args.v) c.pair_bit-k.ensures;
-      lent = refl;
-    }
+    let m = take_may (bit_graph s.cards s.memory.now) c.args.u c.args.v (sym c.in_ok-may_take.ensures) in
+    rw (c.turn.ensures ∙ ap (turned s.memory.now) c.pair_bit.ensures)
+    (take_graph s.cards s.memory.now c.args.u c.args.v (record { ends = m.ends; fits = s.fits }) m.held)

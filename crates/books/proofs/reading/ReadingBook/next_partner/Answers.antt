@@ -1,23 +1,13 @@
-use Rattle.std.proofs.Common.{◌≡◌, Some, None, sym, ◌∙◌, arith}
-use Rattle.books.specs.Books.{next_partner}
-use Rattle.books.proofs.Partners.{first_here, first_later, first_past, next_lowest}
+use Rattle.std.proofs.Common.{◌≡◌, true, false, rules}
+use Rattle.std.proofs.lemmas.Iterator.{first_from_Range}
+use Rattle.books.proofs.Partners.{lowest_found, lowest_of, lowest_next}
 use Rattle.books.proofs.reading.ReadingBook.next_partner.Goals as goal
-
-pub returns-then-linked : goal.returns-then-linked
-returns-then-linked g c =
-    let b = g.Self.ReadingBook.book c.args.self.now in
-    let e : Some c.loop-x.x ≡ next_partner b.graph c.args.u c.args.w =
-    sym (first_here (b.graph.linked c.args.u) b.graph.cards c.loop-x.x (omega (arith, c.cards-n.ensures.is)) (sym c.if-linked.ensures)) ∙ c.loop-x.invariant in
-    record { is = e; lowest = next_lowest b.graph b.lawful c.args.u c.args.w (Some c.loop-x.x) e }
-
-pub loop-x-preserved : goal.loop-x-preserved
-loop-x-preserved g c =
-    let h = (g.Self.ReadingBook.book c.args.self.now).graph in
-    sym (first_later (h.linked c.args.u) h.cards c.loop-x.x (omega (arith, c.cards-n.ensures.is)) (sym c.if-linked.ensures)) ∙ c.loop-x.invariant
 
 pub returns : goal.returns
 returns g c =
-    let b = g.Self.ReadingBook.book c.args.self.now in
-    let e : None ≡ next_partner b.graph c.args.u c.args.w =
-    sym (first_past (b.graph.linked c.args.u) b.graph.cards c.loop-x.x (omega (arith, c.cards-n.ensures.is))) ∙ c.loop-x.invariant in
-    record { is = e; lowest = next_lowest b.graph b.lawful c.args.u c.args.w None e }
+    let b = g.Self.ReadingBook.graph c.args.self.now in
+    let l = (g.met.Self.ReadingBook.sound c.args.self.now).lawful in
+    let m = lowest_found b l c.args.u c.args.w c.find.result
+    (rw (← c.cards.ensures.is) (first_from_Range _ _ _ _ (λ x. b.linked c.args.u x ≡ true) (λ x. b.linked c.args.u x ≡ false) c.find.ensures.ran
+    (λ x q k. search rules) (λ x q k. (search rules, search rules)))) in
+    record { is = lowest_next b l c.args.u c.args.w c.find.result (lowest_of b c.args.u c.args.w c.find.result m); lowest = m }

@@ -1,15 +1,15 @@
-use Rattle.books.proofs.Partners.{next_lowest}
-use Rattle.chain_book.specs.Standing.{graph_of}
-use Rattle.chain_book.proofs.Once.{in_order}
+use Rattle.std.proofs.Common.{inl, inr}
+use Rattle.chain_book.proofs.Calls.{ask_none, ask_runs, ask_next}
 use Rattle.chain_book.proofs.book.ChainBookReadingBook.next_partner.Goals as goal
 
-pub next_partner-requires : goal.next_partner-requires
-next_partner-requires c = in_order c.args.self.now.parts c.args.self.now.standing
+pub returns-then-u-self : goal.returns-then-u-self
+returns-then-u-self c = ask_none c.args.self.now c.args.u c.args.w (elim c.then-u-self.branch [
+  | goal.then-u-self-via-then-u-self w ↦ inl w.if-u-self.true
+  | goal.then-u-self-via-else-u-self+then-self-eq0 w ↦ inr w.if-self-eq0.true
+])
+
+pub partner_from-requires-clause-runs : goal.partner_from-requires-clause-runs
+partner_from-requires-clause-runs c = ask_runs c.args.self.now c.args.u c.args.w c.if-u-self.false c.if-self-eq0.false
 
 pub returns : goal.returns
-returns c =
-    let p = c.args.self.now.parts in
-    record {
-      is = c.next_partner.ensures;
-      lowest = next_lowest (graph_of p) (in_order p c.args.self.now.standing).sound.lawful c.args.u c.args.w c.next_partner.result c.next_partner.ensures;
-    }
+returns c = ask_next c.args.self.now c.args.u c.args.w c.if-u-self.false c.if-self-eq0.false c.partner_from.ensures

@@ -1,15 +1,34 @@
-use Rattle.std.proofs.Common.{sym}
-use Rattle.chain_book.proofs.Once.{in_order}
+use Rattle.chain_book.proofs.Calls.{take_some, take_first, take_second, take_invariant, take_links, take_spare}
 use Rattle.chain_book.proofs.book.ChainBookWritingBook.take.Goals as goal
 
-pub may_take-requires : goal.may_take-requires
-may_take-requires c = in_order c.args.self.now.parts c.args.self.now.standing
+pub remove-requires : goal.remove-requires
+remove-requires c = take_first c.args.self.now c.args.u c.args.v c.in_ok-may_take.ensures
 
-pub leave-requires : goal.leave-requires
-leave-requires c = record {
-  standing = in_order c.args.self.now.parts c.args.self.now.standing;
-  may = sym c.in_ok-may_take.ensures;
-}
+pub remove-requires-2 : goal.remove-requires-2
+remove-requires-2 c =
+    take_second c.args.self.now c.args.u c.args.v c.in_ok-may_take.ensures
+    c.remove.ensures.records c.remove.ensures.free
 
 pub invariant_of-self : goal.invariant_of-self
-invariant_of-self c = record { standing = ∣ c.leave.ensures.standing ∣₁ }
+invariant_of-self c =
+    take_invariant c.args.self.now c.args.u c.args.v c.in_ok-may_take.ensures
+    c.remove.ensures.records c.remove.ensures.free
+    c.remove-2.ensures.records c.remove-2.ensures.free
+
+pub returns-clause-links : goal.returns-clause-links
+returns-clause-links c =
+    take_links c.args.self.now c.args.u c.args.v c.in_ok-may_take.ensures
+    c.remove.ensures.records c.remove.ensures.free
+    c.remove-2.ensures.records c.remove-2.ensures.free
+
+pub returns-clause-records : goal.returns-clause-records
+returns-clause-records c = rw (c.remove-2.ensures.records, c.remove.ensures.records, c.remove.ensures.free)
+
+pub returns-clause-free : goal.returns-clause-free
+returns-clause-free c =
+    take_spare c.args.self.now c.args.u c.args.v c.in_ok-may_take.ensures
+    c.remove.ensures.records c.remove.ensures.free
+    c.remove-2.ensures.records c.remove-2.ensures.free
+
+pub overflow_sub-self : goal.overflow_sub-self
+overflow_sub-self c = take_some c.args.self.now c.args.u c.args.v c.in_ok-may_take.ensures
