@@ -8,7 +8,8 @@ import glob
 import itertools
 import re
 
-SIGNATURE = re.compile(r"fn (\w+)(?:<[^(]*>)?\(([^)]*)\)", re.S)
+# generics may hold `F: Fn(u16) -> bool`; the parameters are what stands between the next parentheses after them
+SIGNATURE = re.compile(r"fn (\w+)(?:<(?:[^<>]|->|<[^<>]*>)*>)?\(([^)]*)\)", re.S)
 
 
 def names(parameters):

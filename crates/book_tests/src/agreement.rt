@@ -62,7 +62,7 @@ impl<A: WritingBook, B: WritingBook> Both<A, B> {
     // Puts every pair in, the lower card first, in ascending order, and answers how many were done.
     fn fill_up(&mut self, rt: &impl Abort) -> u32 {
         let n = self.chains.cards();
-        // past the first number of `u..n` are those above u
+        // the numbers above u, without adding to u
         self.count_done(
             rt,
             (0..n).flat_map(move |u| (u..n).skip(1).map(move |v| Step::Put(u, v))),

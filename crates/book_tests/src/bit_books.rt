@@ -1,5 +1,5 @@
 // The bit book: its memory byte by byte, its answers and its refusals.
-use super::steps::{FROM_ANYWHERE, ask};
+use super::steps::{FROM_ANYWHERE, REFUSED_IN_ORDER, ask, follow};
 use bit_book::{BitBook, check as suits};
 use books::{ReadingBook, Refusal, WritingBook};
 
@@ -99,19 +99,12 @@ fn a_take_clears_the_bit_of_its_pair(rt: HostRuntime) {
     assert_eq!(rt; memory, [0b0000_0010, 0b0000_0001, 0xff]);
 }
 
-// A number that is no card comes before equal ends, and both before what the book holds. (The chain book has a test of its
-// own, for it can also be full, which comes last; the steps differ.)
+// With the last of these steps 1-3 is held.
 #[test]
 fn refusals_come_in_their_order(rt: HostRuntime) {
     let mut memory = [0; 1];
     let mut book = BitBook::new(4, &mut memory);
-    assert_eq!(rt; book.put(4, 4), Err(Refusal::NoSuchCard));
-    assert_eq!(rt; book.put(0, 4), Err(Refusal::NoSuchCard));
-    assert_eq!(rt; book.take(65535, 0), Err(Refusal::NoSuchCard));
-    assert_eq!(rt; book.take(3, 3), Err(Refusal::SameCard));
-    assert_eq!(rt; book.put(3, 3), Err(Refusal::SameCard));
-    assert_eq!(rt; book.take(1, 3), Err(Refusal::LinkMissing));
-    assert_eq!(rt; book.put(1, 3), Ok(()));
+    follow(&rt, &mut book, &REFUSED_IN_ORDER);
     assert_eq!(rt; book.put(3, 1), Err(Refusal::LinkHeld));
     assert_eq!(rt; book.links(), 1);
 }

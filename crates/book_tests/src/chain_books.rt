@@ -1,6 +1,6 @@
 // The chain book: its memory record by record, its answers and its refusals.
 use super::steps::Step::{Put, Take};
-use super::steps::{FROM_ANYWHERE, OLD, ask, follow, sizes};
+use super::steps::{FROM_ANYWHERE, OLD, REFUSED_IN_ORDER, ask, follow, sizes};
 use books::{ReadingBook, Refusal};
 use chain_book::{ChainBook, Record, check as suits};
 
@@ -135,22 +135,16 @@ fn ten_heads_and_three_further_records_have_one_place(rt: HostRuntime) {
     assert!(rt; book.linked(1, 0) && !book.linked(4, 9));
 }
 
-// A number that is no card comes before equal ends, both before what the book holds, and that before a full book.
+// With the last of the steps in order the one place is taken, and being full comes after all other refusals.
 #[test]
 fn refusals_come_in_their_order(rt: HostRuntime) {
     let mut records = [OLD; 6];
     let mut book = ChainBook::new(4, &mut records);
+    follow(&rt, &mut book, &REFUSED_IN_ORDER);
     follow(
         &rt,
         &mut book,
         &[
-            (Put(4, 4), Err(Refusal::NoSuchCard)),
-            (Put(0, 4), Err(Refusal::NoSuchCard)),
-            (Take(65535, 0), Err(Refusal::NoSuchCard)),
-            (Take(3, 3), Err(Refusal::SameCard)),
-            (Put(3, 3), Err(Refusal::SameCard)),
-            (Take(1, 3), Err(Refusal::LinkMissing)),
-            (Put(1, 3), Ok(())),
             (Put(5, 5), Err(Refusal::NoSuchCard)),
             (Put(2, 2), Err(Refusal::SameCard)),
             (Put(3, 1), Err(Refusal::LinkHeld)),

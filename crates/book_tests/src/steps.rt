@@ -9,6 +9,17 @@ pub(crate) const OLD: Record = Record {
     next: 7777,
 };
 
+// In a book of four cards: a number that is no card comes before equal ends, and both before what the book holds.
+pub(crate) const REFUSED_IN_ORDER: [(Step, Result<(), Refusal>); 7] = [
+    (Step::Put(4, 4), Err(Refusal::NoSuchCard)),
+    (Step::Put(0, 4), Err(Refusal::NoSuchCard)),
+    (Step::Take(65535, 0), Err(Refusal::NoSuchCard)),
+    (Step::Take(3, 3), Err(Refusal::SameCard)),
+    (Step::Put(3, 3), Err(Refusal::SameCard)),
+    (Step::Take(1, 3), Err(Refusal::LinkMissing)),
+    (Step::Put(1, 3), Ok(())),
+];
+
 // Of ten cards, where 4 has the partners 2 and 9: questions from anywhere, and their answers.
 pub(crate) const FROM_ANYWHERE: [(u16, u16, Option<u16>); 10] = [
     (4, 0, Some(2)),
@@ -39,7 +50,7 @@ impl Step {
     }
 }
 
-// Does each step, and sees that it comes to what stands beside it.
+// Does each step, and sees that it comes to what stands beside it. (Elsewhere `steps` are an iterator, or how many.)
 pub(crate) fn follow<B: WritingBook>(
     rt: &impl Abort,
     book: &mut B,

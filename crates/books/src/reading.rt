@@ -1,5 +1,5 @@
 // A book that answers questions. No question changes it.
-ghost use Rattle.std.specs.Prelude.{◌≡◌, ◌≤◌, Bool, true, false};
+ghost use Rattle.std.specs.Prelude.{◌≡◌, ◌≤◌};
 ghost use Rattle.books.specs.Graphs.{Graph, link_count};
 ghost use Rattle.books.specs.Books.{IsBook, next_partner, LowestPartner};
 

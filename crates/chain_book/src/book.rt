@@ -4,7 +4,9 @@ ghost use Rattle.std.specs.List.{range_with_len};
 ghost use Rattle.std.specs.Result.{result_err};
 ghost use Rattle.books.specs.Graphs.{link_count, with_link, without_link};
 ghost use Rattle.books.specs.Refusals.{put_refusal, take_refusal, unless_refused};
+ghost use Rattle.chain_book.specs.Layout.{cards_made, records_made, places_made, laid};
 ghost use Rattle.chain_book.specs.Order.{Sound};
+ghost use Rattle.chain_book.specs.Steps.{put_in, taken_out};
 ghost use Rattle.chain_book.specs.Once.{sound_once};
 
 use super::chain::{insert, partner_from, remove};
@@ -29,8 +31,7 @@ pub struct ChainBook<'a> {
 }
 
 impl<'a> ChainBook<'a> {
-    // here and in the other impls, since these definitions name the struct
-    ghost use Rattle.chain_book.specs.Layout.{cards_made, records_made, places_made, laid};
+    // in the impls, since these definitions name the struct
     ghost use Rattle.chain_book.specs.Book.{graph_of, room_of, free_of};
 
     // A book of so many cards and no link, on the records lent. It writes the records that it needs, and
@@ -85,12 +86,12 @@ impl ReadingBook for ChainBook<'_> {
         if u >= self.cards || self.needed == 0 {
             return None;
         }
+        // widened by `as` here and below, as in `chain.rt`: the check then sees the number
         partner_from(&self.records[..self.needed as usize], u, w)
     }
 }
 
 impl WritingBook for ChainBook<'_> {
-    ghost use Rattle.chain_book.specs.Steps.{put_in, taken_out};
     ghost use Rattle.chain_book.specs.Book.{own, past, graph_of, room_of, free_of};
 
     ghost room = { room_of };

@@ -6,8 +6,7 @@
 // It is a rule of the project that functions which take the lent slice do this work, and that a record is a partner and
 // the number of the next one, of 16 bits each. So the end is a number, `walk` goes from number to number, `records` and
 // `free` are passed on with the card and the partner, and what must hold of them, that u has a head and a chain, is asked
-// by each function. Numbers are widened by `as`, through which the check sees them: with `usize::from` some of the proofs
-// here did not close.
+// by each function.
 ghost use Rattle.std.specs.Prelude.{◌≡◌, ◌<◌, length};
 ghost use Rattle.chain_book.specs.Records.{next_of, partner_of, chain};
 ghost use Rattle.chain_book.specs.Steps.{Walkable, onward, stop, found, first_partner, pointed, spliced, cut, hung, unhung};
@@ -19,7 +18,8 @@ use std::mem;
 pub(crate) const END: u16 = 0;
 
 // The record after which w belongs in u's chain: the last whose partner is below w, or u's head.
-// Reads each record of the chain once, up to the first whose partner is not below w.
+// Reads each record of the chain once, up to the first whose partner is not below w. Here and in `partner_from` numbers
+// are widened by `as`, through which the check sees them: with `usize::from` the proofs did not close.
 fn walk(records: &[Record], u: u16, w: u16) -> u16
     requires head { u < length records.now }
     requires runs { Walkable records.now u }
@@ -54,7 +54,7 @@ fn take_free(records: &[Record], free: &mut u16) -> u16
     ensures taken { result ≡ free.old }
     ensures free { free.new ≡ next_of records.now free.old }
 {
-    let next = records[*free as usize].next;
+    let next = records[usize::from(*free)].next;
     mem::replace(free, next)
 }
 
@@ -64,7 +64,7 @@ fn give_back(records: &mut [Record], free: &mut u16, gone: u16)
     ensures records { records.new ≡ pointed records.old gone free.old }
     ensures free { free.new ≡ gone }
 {
-    records[gone as usize].next = mem::replace(free, gone);
+    records[usize::from(gone)].next = mem::replace(free, gone);
 }
 
 // Has the record `fresh` hold w, and come right after the record `at`.
@@ -72,9 +72,9 @@ fn link_in(records: &mut [Record], at: u16, fresh: u16, w: u16)
     requires { (at < length records.old) × (fresh < length records.old) }
     ensures { records.new ≡ spliced records.old at fresh w }
 {
-    let next = records[at as usize].next;
-    records[fresh as usize] = Record { partner: w, next };
-    records[at as usize].next = fresh;
+    let next = records[usize::from(at)].next;
+    records[usize::from(fresh)] = Record { partner: w, next };
+    records[usize::from(at)].next = fresh;
 }
 
 // Takes the record after `at` out of its chain, and answers its number.
@@ -83,8 +83,8 @@ fn unlink(records: &mut [Record], at: u16) -> u16
     ensures records { records.new ≡ cut records.old at }
     ensures gone { result ≡ next_of records.old at }
 {
-    let gone = records[at as usize].next;
-    records[at as usize].next = records[gone as usize].next;
+    let gone = records[usize::from(at)].next;
+    records[usize::from(at)].next = records[usize::from(gone)].next;
     gone
 }
 

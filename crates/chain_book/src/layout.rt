@@ -28,7 +28,7 @@ pub fn check(cards: u16, records: &[Record]) -> Result<(), Refusal>
 fn suitable(cards: u16, records: usize) -> bool
     ensures { result ≡ suits cards records }
 {
-    cards_suit(cards) && cards as usize <= records && records <= MOST_RECORDS
+    cards_suit(cards) && usize::from(cards) <= records && records <= MOST_RECORDS
 }
 
 // How a new book lays out its records: how many cards it has, and how many records it stands on.
@@ -63,7 +63,7 @@ impl Layout {
         requires { self.needed ≤ length records.old }
         ensures { records.new ≡ laid self.cards self.needed ++ drop self.needed records.old }
     {
-        for (i, record) in records[..self.needed as usize].iter_mut().enumerate() {
+        for (i, record) in records[..usize::from(self.needed)].iter_mut().enumerate() {
             *record = Record {
                 partner: 0,
                 next: self.next(i as u16),

@@ -20,9 +20,8 @@ pub fn check(cards: u16, list: &[u16]) -> Result<(), Refusal>
     Ok(())
 }
 
-// `cards` and `list` are what a caller hands in: once they suit, they are a `ClosedBook`.
-//
 // No number is left over, and every pair is two cards, the lower first, that come after the pair before them.
+// (`cards` and `list` are what a caller hands in; once they suit, a `ClosedBook` holds them.)
 fn in_order(cards: u16, list: &[u16]) -> bool
     ensures { result ≡ list_suits cards list.now }
 {

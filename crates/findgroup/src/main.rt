@@ -76,7 +76,7 @@ fn first_line(lines: &mut Input) -> Result<Setup, Trouble> {
 
 // The trouble that the first line cannot be read.
 fn first_unread(error: io::Error) -> Trouble
-    ensures { IsFirstUnread result }
+    ensures { result ≡ Trouble.Input 1 error }
 {
     Trouble::Input { line: 1, error }
 }

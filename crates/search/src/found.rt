@@ -1,4 +1,5 @@
-// What the search by itself answers. Its two counts are no `Line`, since nothing is held against them.
+// What the search by itself answers. Its cards and links are no `Line`, since nothing is held against
+// them.
 #[derive(Clone, Copy, PartialEq, Eq, Debug)]
 pub struct Group {
     pub cards: u16,

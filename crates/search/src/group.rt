@@ -1,5 +1,5 @@
 // The search by itself: from all cards, on any book that can be read.
-ghost use Rattle.std.specs.Prelude.{◌≡◌, ℕ, ◌<◌, ◌≤◌, ◌++◌, length, drop, IfOk};
+ghost use Rattle.std.specs.Prelude.{◌≡◌, ◌<◌, ◌≤◌, ◌++◌, length, drop, IfOk};
 ghost use Rattle.books.specs.Sums.{sum_to, one};
 ghost use Rattle.peel.specs.Sets.{listed};
 ghost use Rattle.peel.specs.Theorems.{NoneDenser};

@@ -1,5 +1,5 @@
 // A whole peel, round by round, with the best of its sets.
-ghost use Rattle.std.specs.Prelude.{◌≡◌, ℕ, ◌<◌, ◌≤◌, length, if◌then◌else◌, nat_lt};
+ghost use Rattle.std.specs.Prelude.{◌≡◌, ℕ, ◌<◌, ◌≤◌, if◌then◌else◌, nat_lt};
 ghost use Rattle.peel.specs.Lines.{line_of};
 ghost use Rattle.peel.specs.Peels.{peel, PeelLevels, Best};
 ghost use Rattle.search.specs.Rows.{rows, rules_of};

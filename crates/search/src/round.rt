@@ -1,5 +1,5 @@
 // One round of a peel: from the set of the cards at level t or higher to the next.
-ghost use Rattle.std.specs.Prelude.{◌≡◌, ℕ, suc, ◌<◌};
+ghost use Rattle.std.specs.Prelude.{◌≡◌, suc, ◌<◌};
 ghost use Rattle.peel.specs.Lines.{line_of};
 ghost use Rattle.peel.specs.Peels.{peel, peel_cards, LevelsUpTo};
 ghost use Rattle.search.specs.Rows.{rows, rules_of};

@@ -1,5 +1,5 @@
 // The search from a set of cards: peel after peel, until no set of a peel reaches the line.
-ghost use Rattle.std.specs.Prelude.{◌≡◌, ℕ, ◌<◌, ◌≤◌, length, nat_le};
+ghost use Rattle.std.specs.Prelude.{◌≡◌, ℕ, ◌<◌, nat_le};
 ghost use Rattle.peel.specs.Tolerances.{Height};
 ghost use Rattle.peel.specs.Lines.{line_of};
 ghost use Rattle.peel.specs.Searches.{Search};
