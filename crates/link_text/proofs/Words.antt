@@ -1,5 +1,5 @@
 -- Word after word: what a call of `next` and the reading of its answer tell of the words that were left.
-use Rattle.std.proofs.Common.{◌≡◌, ℕ, suc, ◌+◌, ◌-◌, ◌<◌, ◌≤◌, Bool, true, false, cond, not, eqb, List, [], ◌∷◌, ◌++◌, length, get_or, take, set, Some, None, Ok, Err, Option, Result, MatchOption, MatchBool, Bor, sym, refl, ap, ◌∙◌, subst, arith, append_assoc, append-nil, is_some}
+use Rattle.std.proofs.Common.{◌≡◌, ℕ, suc, ◌+◌, ◌-◌, ◌<◌, ◌≤◌, Bool, true, false, cond, not, eqb, List, [], ◌∷◌, ◌++◌, length, get_or, take, set, Some, None, Ok, Err, Option, Result, MatchOption, MatchBool, Bor, sym, refl, ap, ◌∙◌, subst, arith, append_assoc, is_some}
 use Rattle.std.specs.List.{slice_split, onto_first, All, IsFirstMatchOrLen}
 use Rattle.std.proofs.lemmas.Grind.{common_steps}
 use Rattle.std.proofs.lemmas.List.{take_more_set, take_all}
@@ -115,10 +115,6 @@ behind_all : {o : Option (Bor (List ℕ))} {ws after : List (List ℕ)} (n i : �
 behind_all {o = o} {ws = ws} {after = after} n i xs h l t =
     let z : n - i ≡ 0 = omega arith in
     ap (λ k. and_then (numbers_in k ws) (λ ns. Ok (take i xs ++ ns))) z ∙ (ap (λ v. and_then (at_end v []) (λ ns. Ok (take i xs ++ ns))) t.is ∙ ap (λ ys. and_then (at_end (first_of o after) []) (λ ns. Ok (ys ++ ns))) (take_all i xs (omega arith)))
-
-pub behind_end : {o : Option (Bor (List ℕ))} {ws after : List (List ℕ)} (n i : ℕ) (xs : List ℕ) (all : Result (List ℕ) Fault) → n ≤ i → length xs ≡ n → Taken o ws after → false ≡ is_some o → all ≡ behind n i xs ws → Ok xs ≡ all
-behind_end {o = None} n i xs all h l t f a = sym (a ∙ (behind_all n i xs h l t ∙ ap (λ ys. Ok ys) (append-nil xs)))
-behind_end {o = Some w} n i xs all h l t f a = absurd (cc)
 
 pub behind_follows : {o : Option (Bor (List ℕ))} {ws after : List (List ℕ)} (n i : ℕ) (xs : List ℕ) (all : Result (List ℕ) Fault) → n ≤ i → length xs ≡ n → Taken o ws after → true ≡ is_some o → all ≡ behind n i xs ws → Err MoreFollows ≡ all
 behind_follows {o = None} n i xs all h l t f a = absurd (cc)

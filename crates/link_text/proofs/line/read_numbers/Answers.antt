@@ -3,7 +3,7 @@ use borrow.Author.Tests.{tests}
 use Rattle.std.proofs.lemmas.Grind.{common_steps}
 use Rattle.std.proofs.lemmas.Fn.{always_returns_same}
 use Rattle.std.proofs.lemmas.Result.{err_from_is_err_and}
-use Rattle.link_text.proofs.Words.{left, taken, behind_none, behind_wrong, behind_more, behind_end, behind_follows}
+use Rattle.link_text.proofs.Words.{left, taken, behind_none, behind_wrong, behind_more, behind_follows}
 use Rattle.link_text.proofs.line.read_numbers.Goals as goal
 
 pub loop-number-init : goal.loop-number-init
@@ -27,8 +27,3 @@ pub returns-then-is_some : goal.returns-then-is_some
 returns-then-is_some g c =
     let t = taken _ _ _ _ _ _ _ _ c.next-2.ensures.steps (always_returns_same _ _ _ (λ a r q k. search (rules, tests))) in
     behind_follows g.row.N c.loop-number.number-index _ _ c.loop-number-test.false c.loop-number.invariant.length t c.if-is_some.ensures c.loop-number.invariant.read
-
-pub returns : goal.returns
-returns g c =
-    let t = taken _ _ _ _ _ _ _ _ c.next-2.ensures.steps (always_returns_same _ _ _ (λ a r q k. search (rules, tests))) in
-    behind_end g.row.N c.loop-number.number-index _ _ c.loop-number-test.false c.loop-number.invariant.length t c.if-is_some.ensures c.loop-number.invariant.read

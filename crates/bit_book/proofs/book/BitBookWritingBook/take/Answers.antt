@@ -2,14 +2,8 @@ use Rattle.std.proofs.Common.{ap, sym, ◌∙◌, arith}
 use Rattle.books.proofs.Links.{take_may}
 use Rattle.bit_book.specs.Layout.{turned}
 use Rattle.bit_book.specs.Meaning.{bit_graph}
-use Rattle.bit_book.proofs.Writes.{byte_in, take_graph, take_tally, take_kept}
+use Rattle.bit_book.proofs.Writes.{take_graph, take_tally, take_kept}
 use Rattle.bit_book.proofs.book.BitBookWritingBook.take.Goals as goal
-
-pub turn-requires : goal.turn-requires
-turn-requires c =
-    let s = c.args.self.now in
-    let m = take_may (bit_graph s.cards s.memory.now) c.args.u c.args.v (sym c.in_ok-may_take.ensures) in
-    byte_in s.cards s.memory.now c.args.u c.args.v c.pair_bit.result c.pair_bit.ensures (record { ends = m.ends; fits = s.fits })
 
 pub overflow_sub-self : goal.overflow_sub-self
 overflow_sub-self c =

@@ -21,9 +21,6 @@ returns-clause-links c =
     c.insert.ensures.records c.insert.ensures.free
     c.insert-2.ensures.records c.insert-2.ensures.free
 
-pub returns-clause-records : goal.returns-clause-records
-returns-clause-records c = rw (c.insert-2.ensures.records, c.insert.ensures.records, c.insert.ensures.free)
-
 pub returns-clause-free : goal.returns-clause-free
 returns-clause-free c =
     put_spare c.args.self.now c.args.u c.args.v c.places.ensures c.in_ok-may_put.ensures

@@ -21,9 +21,6 @@ returns-clause-links c =
     c.remove.ensures.records c.remove.ensures.free
     c.remove-2.ensures.records c.remove-2.ensures.free
 
-pub returns-clause-records : goal.returns-clause-records
-returns-clause-records c = rw (c.remove-2.ensures.records, c.remove.ensures.records, c.remove.ensures.free)
-
 pub returns-clause-free : goal.returns-clause-free
 returns-clause-free c =
     take_spare c.args.self.now c.args.u c.args.v c.in_ok-may_take.ensures
