@@ -1,10 +1,10 @@
 -- The members of a set, listed in ascending order.
-use Rattle.std.proofs.Common.{◌≡◌, ℕ, zero, suc, ◌+◌, ◌*◌, ◌<◌, cond, List, [], ◌∷◌, ◌++◌, length, get_or, take, drop, set, sym, refl, ap, ◌∙◌, zero-add, add-one, map-id, arith}
+use Rattle.std.proofs.Common.{◌≡◌, ℕ, zero, suc, ◌+◌, ◌<◌, cond, List, [], ◌∷◌, ◌++◌, length, get_or, take, drop, set, sym, refl, ap, ◌∙◌, zero-add, add-one, map-id, arith}
 use Rattle.std.proofs.lemmas.List.{append_assoc, set_at, drop_more, take_more, length-take-le}
 use Rattle.std.proofs.Math.Seq.{take-length}
 use Rattle.std.proofs.lemmas.Grind.{common_steps}
 use Rattle.std.proofs.lemmas.List.FromFn.{filter_of_map_range_with_len_more, length-enumerate_from, get_or-enumerate_from}
-use Rattle.std.specs.List.{range_with_len, filter, sum_by, enumerate_from}
+use Rattle.std.specs.List.{range_with_len, filter, enumerate_from}
 use Rattle.books.specs.Sums.{sum_to, one}
 use Rattle.peel.specs.Sets.{Cards, listed}
 
@@ -24,16 +24,9 @@ listed_filter X (suc n) =
     = simp map-id at (filter_of_map_range_with_len_more X (λ x. x) 0 n n (zero-add n)) in
     ap (λ (k : ℕ). filter X (range_with_len 0 k)) (sym (add-one n)) ∙ e ∙ ap (λ (xs : List ℕ). xs ++ cond (X n) (n ∷ []) []) (listed_filter X n)
 
--- how many they are, and what h adds up to over them
+-- how many they are
 pub filter_count : (X : Cards) (n : ℕ) → length (filter X (range_with_len 0 n)) ≡ count X n
 filter_count X n = ap length (listed_filter X n) ∙ listed_length X n
-
-listed_sum : (h : ℕ → ℕ) (X : Cards) (n : ℕ) → sum_by h (listed X n) ≡ sum_to (λ v. one (X v) * h v) n
-listed_sum h X zero = refl
-listed_sum h X (suc n) = grind (arith, common_steps, listed_sum h X n)
-
-pub filter_sum : (h : ℕ → ℕ) (X : Cards) (n : ℕ) → sum_by h (filter X (range_with_len 0 n)) ≡ sum_to (λ v. one (X v) * h v) n
-filter_sum h X n = ap (sum_by h) (listed_filter X n) ∙ listed_sum h X n
 
 -- item k of the list xs, counted from 0
 abbrev pub Item : List ℕ → ℕ → ℕ → ℕ → Type 0

@@ -20,11 +20,16 @@ fn line_of<B: ReadingBook>(book: &B, set: &[bool; 1024]) -> Line
 {
     let n = book.cards();
     let is_in = |v: u16| set[usize::from(v)];
-    let cards = (0..n).filter(|u| is_in(*u)).count() as u16;
-    let ends: u32 = (0..n)
-        .filter(|u| is_in(*u))
-        .map(|u| u32::from(partners_in(book, is_in, u)))
-        .sum();
+    let mut cards: u16 = 0;
+    let mut ends: u32 = 0;
+    // One pass, by hand: `count` beside `sum` would ask about each card twice. (A loop over `filter` gets no proof here, in a
+    // function that is generic over books.)
+    for u in 0..n {
+        if is_in(u) {
+            cards += 1;
+            ends += u32::from(partners_in(book, is_in, u));
+        }
+    }
     Line {
         links: ends / 2,
         cards,
@@ -35,7 +40,12 @@ fn line_of<B: ReadingBook>(book: &B, set: &[bool; 1024]) -> Line
 fn marks_at(levels: &[u16; 1024], level: u16) -> [bool; 1024]
     ensures { (v : ℕ) → v < 1024 → marked result v ≡ nat_le level (rows levels.now v) }
 {
-    levels.map(|l| l >= level)
+    // In place: `map` would copy the table, and take its rows out of it one by one.
+    let mut marks = [false; 1024];
+    for (v, l) in levels.iter().enumerate() {
+        marks[v] = *l >= level;
+    }
+    marks
 }
 
 // The search from any set of cards, marked by their numbers. Each peel but the last makes the kept
