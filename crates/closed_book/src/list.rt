@@ -2,7 +2,7 @@
 // links in strictly ascending order of their first and then of their second number.
 ghost use Rattle.std.specs.Prelude.{◌≡◌};
 ghost use Rattle.std.specs.Result.{result_err};
-ghost use Rattle.closed_book.specs.Lists.{list_suits, list_refusal};
+ghost use Rattle.closed_book.specs.Lists.{before, list_suits, list_refusal};
 
 use books::{Refusal, cards_suit};
 
@@ -28,15 +28,23 @@ fn in_order(cards: u16, list: &[u16]) -> bool
     let (pairs, []) = list.as_chunks::<2>() else {
         return false;
     };
-    // One pass: `all` and `is_sorted_by` would read the pairs twice. None stands below every Some, so the first pair need
-    // not come after one.
-    let mut last = None;
+    // One pass: `all` and `is_sorted_by` would read the pairs twice. Two cards, the lower first, always come after
+    // (0, 0), so the first pair need not come after one.
+    let mut last = (0, 0);
     for &pair in pairs {
         let [lower, higher] = pair;
-        if lower >= higher || higher >= cards || last >= Some(pair) {
+        if lower >= higher || higher >= cards || !comes_before(last, (lower, higher)) {
             return false;
         }
-        last = Some(pair);
+        last = (lower, higher);
     }
     true
+}
+
+// Whether p comes before q. Written out, since the order of arrays goes through a loop, by which `check` took up to twice
+// the time.
+fn comes_before(p: (u16, u16), q: (u16, u16)) -> bool
+    ensures { result ≡ before p q }
+{
+    p.0 < q.0 || p.0 == q.0 && p.1 < q.1
 }
