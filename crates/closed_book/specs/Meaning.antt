@@ -1,11 +1,12 @@
 -- What a closed book means: its cards, and the links that its list names.
-use Rattle.std.specs.Prelude.{◌≡◌, ℕ, zero, suc, ◌<◌, ◌≤◌, Bool, true, false, cond, ◌&&◌, ◌||◌, List, ◌==◌, ◌≢◌, nat_lt, refl}
+use Rattle.std.specs.Prelude.{◌≡◌, ℕ, zero, suc, ◌<◌, ◌≤◌, Bool, true, false, cond, not, ◌&&◌, ◌||◌, List, is_some, Some, None, ◌==◌, ◌≢◌, nat_lt, refl}
 use Rattle.std.proofs.Common.{ap, inl, inr, arith}
 use Rattle.std.proofs.lemmas.Bool.Decides.{nat_tests}
-use Rattle.std.proofs.lemmas.Bool.{cases_Bool}
+use Rattle.std.proofs.lemmas.Bool.{cases_Bool, false≢true}
+use Rattle.books.specs.declared.refusal.Refusal.TheVariants.{Unsuitable, BadList}
 use Rattle.books.specs.Graphs.{Graph, Lawful}
-use Rattle.books.specs.Books.{IsBook}
-use Rattle.closed_book.specs.Lists.{pair_count, pair_at, pair_suits, every, suits}
+use Rattle.books.specs.Books.{IsBook, cards_suit}
+use Rattle.closed_book.specs.Lists.{pair_count, pair_at, pair_suits, every, list_suits, suits}
 
 -- p and q are the same pair
 abbrev pub same : ℕ × ℕ → ℕ × ℕ → Bool
@@ -29,11 +30,20 @@ abbrev pub closed_graph : ℕ → List ℕ → Graph
 closed_graph n xs = record { cards = n; linked = λ u v. stands xs (lower_first u v) }
 
 -- From here on: the proofs that this is the graph of a book, where the list suits.
+neither : (a b : Bool) → not (is_some (cond a (cond b None (Some BadList)) (Some Unsuitable))) ≡ true → (a ≡ true) × (b ≡ true)
+neither true true h = (refl, refl)
+neither true false h = absurd (false≢true h)
+neither false b h = absurd (false≢true h)
+
 pub suits_cards : (n : ℕ) (xs : List ℕ) → suits n xs ≡ true → (1 ≤ n) × (n ≤ 1024)
-suits_cards n xs s = (grind (arith, nat_tests), grind (arith, nat_tests))
+suits_cards n xs s =
+    let suit = (neither (cards_suit n) (list_suits n xs) s).0 in
+    (grind (arith, nat_tests), grind (arith, nat_tests))
 
 pub suits_pairs : (n : ℕ) (xs : List ℕ) → suits n xs ≡ true → every (pair_suits n xs) (pair_count xs) ≡ true
-suits_pairs n xs s = grind (arith, nat_tests)
+suits_pairs n xs s =
+    let suit = (neither (cards_suit n) (list_suits n xs) s).1 in
+    grind (arith, nat_tests)
 
 -- what stands at one of the first k places is two cards, the lower first
 pub stands_cards : (n : ℕ) (xs : List ℕ) (k : ℕ) (p : ℕ × ℕ) → every (pair_suits n xs) k ≡ true → any (λ j. same (pair_at xs j) p) k ≡ true → (p.0 < p.1) × (p.1 < n)
