@@ -52,7 +52,7 @@ abbrev pub Goes : ℕ → Graph → ℕ → Result (ℕ × ℕ) Fault → Result
 Goes number g places (Err f) r = r ≡ Err (BadLink number f)
 Goes number g places (Ok x) r = put_refusal g places x.0 x.1 ≡ None → r ≡ Ok tt
 
--- what is told of a trouble; the words of the machine's errors are not stated
+-- what is told of a trouble; where the machine has it, nothing is stated, since its error brings words of its own
 abbrev pub trouble_text : Trouble → Option (List ℕ)
 trouble_text (BadSetup fault) = Some (codes "line 1: expected `n p q`, the number of cards and the tolerance, with one space between two numbers: " ++ fault_words fault)
 trouble_text (BadLink line fault) = Some (codes "line " ++ (decimal line ++ (codes ": expected `u v`, two cards, with one space between the numbers: " ++ fault_words fault)))
