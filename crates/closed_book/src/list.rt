@@ -41,8 +41,8 @@ fn in_order(cards: u16, list: &[u16]) -> bool
     true
 }
 
-// Whether p comes before q. Written out, since the order of arrays goes through a loop, by which `check` took up to twice
-// the time.
+// Whether p comes before q. Written out, since the order of arrays goes through a loop, by which `check` took two to three
+// times as long.
 fn comes_before(p: (u16, u16), q: (u16, u16)) -> bool
     ensures { result ≡ before p q }
 {
